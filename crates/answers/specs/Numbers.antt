@@ -1,0 +1,25 @@
+-- The numbers a caller gets back (document 01, the table of that name), as far as a call gives them.
+use Prim.Native.Nat.{ℕ}
+
+abbrev pub done : ℕ
+done = 0
+
+-- link not offered; number above 63 for a link word
+abbrev pub notOffered : ℕ
+notOffered = 1
+
+-- link word of the wrong length
+abbrev pub wrongLength : ℕ
+wrongLength = 2
+
+-- output buffer too short
+abbrev pub noRoom : ℕ
+noRoom = 3
+
+-- a byte neither 0 nor 1
+abbrev pub noBit : ℕ
+noBit = 4
+
+-- no code word within seven
+abbrev pub noWord : ℕ
+noWord = 6

@@ -1,0 +1,4 @@
+pub mod Bits
+pub mod Differences
+pub mod Ones
+pub mod Row

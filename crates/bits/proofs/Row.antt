@@ -1,0 +1,67 @@
+-- A row of bits and its number: bit by bit, and back.
+-- Assumes nothing.
+use mathlib.Core.Path.{_≡_, refl, sym, ap, _∙_}
+use mathlib.Core.Bool.{Bool, true, false}
+use mathlib.Core.List.{List, [], _∷_, map}
+use Prim.Native.Nat.{ℕ, zero, suc, _+_, _-_, _*_, _/_, _%_, _^_, _<_, _≤_}
+use native.Mathlib.Nat.{pow-suc, pow-succ', one-le-pow, add-mul, mul-assoc, pow-le-pow-right, zero-lt-suc, mod-lt, mod-eq-of-lt}
+use native.Mathlib.Numerals.{add-one}
+use native.Mathlib.Omega.{arith}
+use lib.Arith.{digits-lt, mod-mul}
+use lib.ListN.{length, getD, drop, drop-of-length-le}
+use lib.Seq.{drop-cons}
+use Rattle.bits.specs.Bits.{isOne, byte}
+use Rattle.bits.specs.Row.{highFirst, numberOn, number}
+use Rattle.bits.proofs.Bits.{byte-lt, byte-isOne}
+
+pub length-highFirst : (n w : ℕ) → length (highFirst n w) ≡ n
+unfolding highFirst
+length-highFirst zero w = refl
+length-highFirst (suc n) w = ap suc (length-highFirst n w)
+
+-- ---- the number of a row of bytes, byte by byte
+pub number-more : (row : List ℕ) (w i : ℕ) → i < length row
+    → numberOn w (map isOne (drop i row)) ≡ numberOn (w * 2 + byte (isOne (getD row i 0))) (map isOne (drop (i + 1) row))
+unfolding numberOn
+number-more row w i h = rw (drop-cons row i 0 h, add-one)
+
+pub number-done : (row : List ℕ) (w i : ℕ) → length row ≤ i → numberOn w (map isOne (drop i row)) ≡ w
+unfolding numberOn
+number-done row w i h = rw (drop-of-length-le row h)
+
+-- i bits make a number below 2^i, and one more bit keeps that
+pub more-fits : (w i : ℕ) (b : Bool) → w < 2 ^ i → w * 2 + byte b < 2 ^ (i + 1)
+more-fits w i b h = rw (add-one, pow-suc) (digits-lt h (byte-lt b))
+
+pub below-32 : (w i : ℕ) → i < 32 → w < 2 ^ i → w < 2147483648
+below-32 w i h l = omega (arith, pow-le-pow-right {n = 2} (zero-lt-suc 1) {i = i} {j = 31} (omega arith))
+
+-- ---- the bits of a number, bit by bit
+left : (i : ℕ) → i < 32 → 32 - i ≡ suc (31 - i)
+left i h = omega arith
+
+-- what is left to lay at i begins with the digit 31 - i
+pub bits-more : (w i : ℕ) → i < 32 → map byte (highFirst (32 - i) w) ≡ w / 2 ^ (31 - i) % 2 ∷ map byte (highFirst (32 - (i + 1)) w)
+unfolding highFirst
+bits-more w i h =
+    let next : 32 - (i + 1) ≡ 31 - i = omega arith in
+    let small : w / 2 ^ (31 - i) % 2 < 2 = mod-lt (w / 2 ^ (31 - i)) (zero-lt-suc 1) in
+    rw (left i h, next) (ap (λ (x : ℕ). x ∷ map byte (highFirst (31 - i) w)) (byte-isOne (w / 2 ^ (31 - i) % 2) (omega arith)))
+
+pub bits-done : (w i : ℕ) → 32 ≤ i → map byte (highFirst (32 - i) w) ≡ []
+unfolding highFirst
+bits-done w i h = let none : 32 - i ≡ 0 = omega arith in rw none
+
+-- ---- a number's bits make the number
+back : (n a w : ℕ) → numberOn a (highFirst n w) ≡ a * 2 ^ n + w % 2 ^ n
+unfolding numberOn highFirst
+back zero a w = omega arith
+back (suc n) a w =
+    let d = w / 2 ^ n % 2 in
+    let digit : byte (isOne d) ≡ d = byte-isOne d (omega (arith, mod-lt (w / 2 ^ n) {m = 2} (zero-lt-suc 1))) in
+    let split : w % (2 * 2 ^ n) ≡ d * 2 ^ n + w % 2 ^ n = mod-mul w (zero-lt-suc 1) (one-le-pow n 2 (zero-lt-suc 1)) in
+    let on : numberOn (a * 2 + byte (isOne d)) (highFirst n w) ≡ (a * 2 + d) * 2 ^ n + w % 2 ^ n = ap (λ (x : ℕ). numberOn (a * 2 + x) (highFirst n w)) digit ∙ back n (a * 2 + d) w in
+    on ∙ rw (pow-succ' 2 n, split) (omega (arith, add-mul (a * 2) d (2 ^ n), mul-assoc a 2 (2 ^ n)))
+
+pub number-highFirst : (n w : ℕ) → w < 2 ^ n → number (highFirst n w) ≡ w
+number-highFirst n w h = back n 0 w ∙ omega (arith, mod-eq-of-lt h)

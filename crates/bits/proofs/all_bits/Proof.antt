@@ -1,0 +1,45 @@
+-- Byte by byte: what is left to test at i decides. Assumes nothing.
+use mathlib.Core.Path.{_≡_, refl, sym, _∙_}
+use Prim.Native.Nat.{_≤_, _-_}
+use lib.ListN.{length, drop}
+use borrow.Author.Needs.{needs}
+use borrow.Author.Tests.{le-leb, lt-leb}
+use Rattle.lists.proofs.All.{all-more, all-done}
+use Rattle.bits.specs.Bits.{allBits}
+use Rattle.bits.proofs.all_bits.Statement.{statement}
+use Rattle.bits.proofs.all_bits.Tie as tie
+
+abbrev Inv-loop : tie.InvT-loop
+Inv-loop bytes i₀ i-end i = (i ≤ i-end) × (i-end ≡ length bytes) × (allBits bytes ≡ allBits (drop i bytes))
+
+abbrev μ-loop : tie.MeasureT-loop
+μ-loop bytes i₀ i-end i = i-end - i
+
+loop-holds : tie.Need-loop-holds Inv-loop μ-loop
+loop-holds c = (search needs, search needs, refl)
+
+shared-slice-read-if1 : tie.Need-shared-slice-read-if1 Inv-loop μ-loop
+shared-slice-read-if1 c = search needs
+
+returns : tie.Need-returns Inv-loop μ-loop
+returns c =
+    let at = c .before .before .before .loop in
+    sym (at .inv .2 ∙ all-more _ _ (at .i) (search needs) ∙ simp (lt-leb _ _ (c .if1 .taken)))
+
+add-i : tie.Need-add-i Inv-loop μ-loop
+add-i c = search needs
+
+loop-less : tie.Need-loop-less Inv-loop μ-loop
+loop-less c = search needs
+
+loop-again : tie.Need-loop-again Inv-loop μ-loop
+loop-again c =
+    let at = c .before .before .before .loop in
+    (search needs, search needs, at .inv .2 ∙ all-more _ _ (at .i) (search needs) ∙ simp (le-leb _ _ (c .if1 .left)))
+
+returns-2 : tie.Need-returns-2 Inv-loop μ-loop
+returns-2 c = sym (c .before .loop .inv .2 ∙ all-done _ _ (c .before .loop .i) (search needs))
+
+pub all-bits-spec : {M : Type 1} → statement M
+all-bits-spec =
+    tie.close (tie.spec Inv-loop μ-loop loop-holds shared-slice-read-if1 returns add-i loop-less loop-again returns-2)

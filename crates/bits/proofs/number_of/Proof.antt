@@ -1,0 +1,74 @@
+-- Bit by bit: what is made so far, with the bits that are left written behind it, is the row's number. Assumes nothing.
+use mathlib.Core.Path.{_≡_, refl, sym, _∙_}
+use mathlib.Core.List.{map}
+use Prim.Native.Nat.{_-_, _≤_, _<_, _^_}
+use native.Mathlib.Omega.{arith}
+use lib.ListN.{length, getD, drop}
+use borrow.Author.Needs.{needs}
+use Rattle.bits.specs.Bits.{isOne}
+use Rattle.bits.specs.Row.{numberOn, number}
+use Rattle.bits.proofs.Bits.{byte-lt}
+use Rattle.bits.proofs.Row.{number-more, number-done, more-fits, below-32}
+use Rattle.bits.proofs.number_of.Statement.{statement}
+use Rattle.bits.proofs.number_of.Tie as tie
+use Rattle.bits.proofs.number_of.Reads as reads
+use Rattle.bits.proofs.number_of.Lts as lts
+use Rattle.bits.proofs.bit_in.Reads as bit-in-reads
+
+abbrev Inv-loop : tie.InvT-loop
+Inv-loop row word₀ i₀ word i = (i ≤ 32) × (word < 2 ^ i) × (numberOn word (map isOne (drop i row)) ≡ number (map isOne row))
+
+abbrev μ-loop : tie.MeasureT-loop
+μ-loop row word₀ i₀ word i = 32 - i
+
+loop-holds : tie.Need-loop-holds Inv-loop μ-loop
+loop-holds c = (search needs, omega arith, refl)
+
+mul-word : tie.Need-mul-word Inv-loop μ-loop
+mul-word c = record { fits = omega (arith, below-32 (c .before .loop .word) (c .before .loop .i) (omega arith) (c .before .loop .inv .1)) }
+
+shared-slice-read-bit-in : tie.Need-shared-slice-read-bit-in Inv-loop μ-loop
+shared-slice-read-bit-in c = search needs
+
+bit-in-requires : tie.Need-bit-in-requires Inv-loop μ-loop
+bit-in-requires c κs = search needs
+
+add-word : tie.Need-add-word Inv-loop μ-loop
+add-word c =
+    let at = c .before .before .before .loop in
+    let a = c .before .before .before .before .before .args in
+    record { fits = omega (arith, below-32 (at .word) (at .i) (omega arith) (at .inv .1), c .bit-in .ensures, byte-lt (isOne (getD (a .row .now) (at .i) 0))) }
+
+add-i : tie.Need-add-i Inv-loop μ-loop
+add-i c = search needs
+
+loop-less : tie.Need-loop-less Inv-loop μ-loop
+loop-less c = search needs
+
+loop-again : tie.Need-loop-again Inv-loop μ-loop
+loop-again c =
+    let at = c .before .before .before .loop in
+    let a = c .before .before .before .before .before .args in (
+      search needs,
+      rw (c .bit-in .ensures) (more-fits (at .word) (at .i) (isOne (getD (a .row .now) (at .i) 0)) (at .inv .1)),
+      rw (c .bit-in .ensures) (sym (number-more (a .row .now) (at .word) (at .i) (omega arith)) ∙ at .inv .2),
+    )
+
+returns : tie.Need-returns Inv-loop μ-loop
+returns c = sym (number-done (c .before .before .before .args .row .now) (c .before .loop .word) (c .before .loop .i) (omega arith)) ∙ c .before .loop .inv .2
+
+pub number-of-spec : {M : Type 1} → statement M
+number-of-spec =
+    tie.close
+    (tie.spec
+    Inv-loop
+    μ-loop
+    loop-holds
+    mul-word
+    shared-slice-read-bit-in
+    bit-in-requires
+    add-word
+    add-i
+    loop-less
+    loop-again
+    returns)

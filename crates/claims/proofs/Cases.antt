@@ -1,0 +1,35 @@
+-- The cases of document 01 hold: antt computes the words and the places where they differ, and reading is exact.
+-- Assumes nothing.
+use mathlib.Core.Path.{_≡_, refl}
+use mathlib.Core.Bool.{Bool}
+use mathlib.Core.List.{List, map}
+use Prim.Native.Nat.{ℕ, _<_}
+use lib.Dec.{T, ltb, ltb→lt, lit<, lit≤}
+use Rattle.answers.specs.Numbers.{noWord}
+use Rattle.lists.proofs.Line.{upto, line}
+use Rattle.bits.specs.Bits.{byte}
+use Rattle.bits.specs.Row.{highFirst, differences}
+use Rattle.words.specs.Word.{generator, withRows, wordOf, wordBits}
+use Rattle.words.specs.Calls.{readWord, refused, found}
+use Rattle.words.proofs.Exact.{near-found, far-refused}
+use Rattle.claims.specs.Cases.{firstInverted, inverted, Cases}
+
+seven-wrong : readWord (map byte (firstInverted 7 (wordBits 5))) ≡ found 5 7
+unfolding highFirst generator withRows wordOf differences
+seven-wrong = near-found (firstInverted 7 (wordBits 5)) refl 5 7 (record { known = lit< tt; count = refl; within = lit≤ tt })
+
+-- every word is eight or more from the word of 5 with its first eight bits inverted
+abbrev beyond : ℕ → Bool
+beyond n = ltb 7 (differences (wordBits n) (firstInverted 8 (wordBits 5)))
+
+eight-wrong : readWord (map byte (firstInverted 8 (wordBits 5))) ≡ refused noWord
+unfolding highFirst generator withRows wordOf differences
+eight-wrong = far-refused (firstInverted 8 (wordBits 5)) refl (λ n h. ltb→lt 7 (differences (wordBits n) (firstInverted 8 (wordBits 5))) (line 64 beyond tt n h))
+
+nine-wrong : readWord (map byte (inverted 9 (wordBits 0) (wordBits 1))) ≡ found 1 7
+unfolding highFirst generator withRows wordOf differences
+nine-wrong = near-found (inverted 9 (wordBits 0) (wordBits 1)) refl 1 7 (record { known = lit< tt; count = refl; within = lit≤ tt })
+
+pub cases : Cases
+unfolding generator withRows wordOf
+cases = record { P1 = refl; P2 = refl; P3 = refl; P4 = seven-wrong; P5 = eight-wrong; P6 = nine-wrong }

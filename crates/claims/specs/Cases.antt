@@ -1,0 +1,35 @@
+-- The cases of document 01, "Cases on either side", as a single list under one claim, of the definitions that the contracts cite.
+use mathlib.Core.Path.{_≡_}
+use mathlib.Core.Bool.{Bool, true, false, not}
+use mathlib.Core.List.{List, [], _∷_, _++_, map}
+use Prim.Native.Nat.{ℕ, zero, suc}
+use lib.ListN.{take, drop}
+use Rattle.answers.specs.Numbers.{noWord}
+use Rattle.bits.specs.Bits.{byte}
+use Rattle.words.specs.Word.{wordOf, wordBits}
+use Rattle.words.specs.Calls.{readWord, refused, found}
+
+-- a row with its first n bits inverted
+abbrev pub firstInverted : ℕ → List Bool → List Bool
+firstInverted n row = map not (take n row) ++ drop n row
+
+-- a row with the first n of the places inverted where it differs from another
+abbrev pub inverted : ℕ → List Bool → List Bool → List Bool
+inverted n [] other = []
+inverted n (x ∷ row) [] = x ∷ row
+inverted zero (x ∷ row) (y ∷ other) = x ∷ row
+inverted (suc n) (true ∷ row) (true ∷ other) = true ∷ inverted (suc n) row other
+inverted (suc n) (true ∷ row) (false ∷ other) = false ∷ inverted n row other
+inverted (suc n) (false ∷ row) (true ∷ other) = true ∷ inverted n row other
+inverted (suc n) (false ∷ row) (false ∷ other) = false ∷ inverted (suc n) row other
+
+pub record Cases : Type 0 where
+  -- the word of 0 is the scrambling word
+  pub P1 : wordOf 0 ≡ 0b11000010111000101000111001001111
+  pub P2 : wordOf 5 ≡ 0b11010101111011010111111010111111
+  pub P3 : wordOf 63 ≡ 0b00111101000111010111000110110000
+  -- the word of 5 with its first seven bits inverted reads 5, with eight it is refused
+  pub P4 : readWord (map byte (firstInverted 7 (wordBits 5))) ≡ found 5 7
+  pub P5 : readWord (map byte (firstInverted 8 (wordBits 5))) ≡ refused noWord
+  -- the word of 0 with nine of the places inverted where it differs from the word of 1
+  pub P6 : readWord (map byte (inverted 9 (wordBits 0) (wordBits 1))) ≡ found 1 7

@@ -1,0 +1,1 @@
+// Theorems only: what is claimed stands in specs/, the proofs in proofs/, and there is no code.

@@ -1,0 +1,21 @@
+// What C calls (include/decklewren.h): the public calls of the crates below, one thin wrapper each, with the same contract.
+use answers::Written;
+use words::Word;
+ghost use mathlib.Core.Path.{_≡_};
+ghost use lib.ListN.{length};
+ghost use Rattle.answers.specs.Outcome.{Wrote};
+ghost use Rattle.words.specs.Calls.{writeWord, readWord};
+
+#[no_mangle]
+pub extern "C" fn decklewren_write_word(number: u32, out: &mut [u8]) -> Written
+    ensures { λ r. ⌜ Wrote (writeWord number (length (now (out .entry)))) (now (out .entry)) (now (out .exit)) r ⌝ }
+{
+    words::write(number, out)
+}
+
+#[no_mangle]
+pub extern "C" fn decklewren_read_word(bits: &[u8]) -> Word
+    ensures { λ r. ⌜ r ≡ readWord (now (bits .entry)) ⌝ }
+{
+    words::read(bits)
+}

@@ -1,0 +1,3 @@
+pub mod All
+pub mod Line
+pub mod Over

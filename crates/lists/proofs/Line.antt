@@ -1,0 +1,32 @@
+-- A rule over the numbers below a bound, proved at each of them by one test that antt computes.
+-- Assumes nothing.
+use mathlib.Core.Path.{_≡_, subst, sym}
+use mathlib.Core.Logic.{⊎-elim}
+use mathlib.Core.Bool.{Bool, true, false, _&&_}
+use Prim.Native.Nat.{ℕ, zero, suc, _<_}
+use native.Mathlib.Nat.{le-of-suc-le-suc, not-suc-le-zero, eq-or-lt-of-le}
+use lib.Dec.{T}
+
+pub both-left : (a b : Bool) → T (a && b) → T a
+both-left true b t = tt
+both-left false b t = t
+
+pub both-right : (a b : Bool) → T (a && b) → T b
+both-right true b t = t
+both-right false b t = absurd t
+
+-- f holds at n - 1, .., 1, 0
+abbrev pub upto : ℕ → (ℕ → Bool) → Bool
+upto zero f = true
+upto (suc n) f = f n && upto n f
+
+pub line : (n : ℕ) (f : ℕ → Bool) → T (upto n f) → (k : ℕ) → k < n → T (f k)
+line zero f t k h = absurd (not-suc-le-zero h)
+line (suc n) f t k h =
+    ⊎-elim (λ (e : k ≡ n). subst (λ (m : ℕ). T (f m)) (sym e) (both-left (f n) (upto n f) t))
+    (λ (l : k < n). line n f (both-right (f n) (upto n f) t) k l)
+    (eq-or-lt-of-le (le-of-suc-le-suc h))
+
+-- the same of two numbers
+pub square : (m n : ℕ) (f : ℕ → ℕ → Bool) → T (upto m (λ a. upto n (λ b. f a b))) → (a b : ℕ) → a < m → b < n → T (f a b)
+square m n f t a b ha hb = line n (λ b. f a b) (line m (λ a. upto n (λ b. f a b)) t a ha) b hb

@@ -1,0 +1,69 @@
+-- What is laid piece by piece is laid as one.
+-- Assumes nothing.
+use mathlib.Core.Path.{_≡_, refl, sym, ap, _∙_}
+use mathlib.Core.List.{List, [], _∷_, _++_, append-nil, append-assoc}
+use Prim.Native.Nat.{ℕ, suc, _+_, _<_, _≤_}
+use native.Mathlib.Nat.{add-zero, zero-add, add-assoc}
+use native.Mathlib.Numerals.{add-one}
+use native.Mathlib.Omega.{arith}
+use lib.ListN.{length, set, take, drop, take-append-drop, length-append, length-drop}
+use lib.Seq.{set-split, append-snoc, take-at, drop-at, drop-drop, length-take-le}
+use Rattle.lists.specs.Over.{over, Room, Laying}
+
+-- nothing laid changes nothing
+over-nil : (at : ℕ) (old : List ℕ) → over at [] old ≡ old
+unfolding over
+over-nil at old = rw (add-zero, append-nil) (take-append-drop at old)
+
+-- laid from the start on
+pub over-zero : (p old : List ℕ) → over 0 p old ≡ p ++ drop (length p) old
+unfolding over
+over-zero p old = rw zero-add
+
+-- a store lays one element
+over-set : (at v : ℕ) (old : List ℕ) → at < length old → set old at v ≡ over at (v ∷ []) old
+unfolding over
+over-set at v old h = set-split old at v h ∙ sym (append-snoc (take at old) v (drop (suc at) old)) ∙ rw add-one
+
+front : (at : ℕ) (p old : List ℕ) → Room at p old → length (take at old ++ p) ≡ at + length p
+front at p old h = length-append (take at old) p ∙ ap (λ (n : ℕ). n + length p) (length-take-le at old (omega arith))
+
+over-length : (at : ℕ) (p old : List ℕ) → Room at p old → length (over at p old) ≡ length old
+unfolding over
+over-length at p old h =
+    omega (arith, length-append (take at old ++ p) (drop (at + length p) old), front at p old h, length-drop (at + length p) old)
+
+-- one piece after another is both as one
+over-over : (at : ℕ) (p q old : List ℕ) → Room at p old → over (at + length p) q (over at p old) ≡ over at (p ++ q) old
+unfolding over
+over-over at p q old h =
+    let n = at + length p in
+    let l = take at old ++ p in
+    let f = take-at l (drop n old) n (front at p old h) in
+    let b : drop (n + length q) (l ++ drop n old) ≡ drop (n + length q) old = sym (drop-drop (length q) n (l ++ drop n old)) ∙ ap (drop (length q)) (drop-at l (drop n old) n (front at p old h)) ∙ drop-drop (length q) n old in
+    rw (f, b, length-append p q, ← add-assoc at (length p) (length q), ← append-assoc (take at old) p q)
+
+-- a loop that lays: at its start all is left
+pub start : (old : List ℕ) (from : ℕ) (goal : List ℕ) → Room from goal old → Laying old from goal old from goal
+start old from goal h = record { finish = refl; ends = refl; long = refl; room = h }
+
+module _ {old : List ℕ} {from : ℕ} {goal out : List ℕ} {at : ℕ} {rest : List ℕ} where
+  -- there is room for the next element
+  pub fits : (v : ℕ) (rest' : List ℕ) → Laying old from goal out at rest → rest ≡ v ∷ rest' → at < length out
+  fits v rest' w e = omega (arith, ap length e, add-one (length rest'), w .ends, w .long, w .room)
+
+  -- the next element is stored
+  pub more : (v : ℕ) (rest' : List ℕ) → Laying old from goal out at rest → rest ≡ v ∷ rest' → Laying old from goal (set out at v) (at + 1) rest'
+  more v rest' w e =
+      let f = fits v rest' w e in
+      let laid = over-set at v out f in
+      record {
+        finish = rw (laid, over-over at (v ∷ []) rest' out (omega arith), ← e) (w .finish);
+        ends = omega (arith, ap length e, add-one (length rest'), w .ends);
+        long = ap length laid ∙ over-length at (v ∷ []) out (omega arith) ∙ w .long;
+        room = w .room;
+      }
+
+  -- at its end nothing is left
+  pub done : Laying old from goal out at rest → rest ≡ [] → out ≡ over from goal old
+  done w e = sym (over-nil at out) ∙ rw (← e) (w .finish)

@@ -1,0 +1,76 @@
+-- When each call writes, answers and refuses, one law for each way.
+-- Assumes nothing.
+use mathlib.Core.Path.{_≡_, refl, ap, _∙_}
+use mathlib.Core.Bool.{Bool, true, false}
+use mathlib.Core.List.{List, map}
+use Prim.Native.Nat.{ℕ, suc, _+_, _-_, _<_, _≤_}
+use native.Mathlib.Omega.{arith}
+use lib.Dec.{ltb}
+use lib.ListN.{length, length-map}
+use borrow.Author.Tests.{ltb-true, ltb-false, lt-ltb, le-ltb, le-leb, lt-leb, eq-eqb, ne-eqb}
+use Rattle.answers.specs.Numbers.{notOffered, wrongLength, noRoom, noBit, noWord}
+use Rattle.answers.specs.Outcome.{refusal, writing}
+use Rattle.bits.specs.Bits.{isOne, byte, allBits}
+use Rattle.bits.specs.Row.{number}
+use Rattle.bits.proofs.Row.{length-highFirst}
+use Rattle.words.specs.Word.{wordOf, wordBits, distance}
+use Rattle.words.specs.Calls.{writeWord, readWord, firstNear, refused, found}
+
+-- ---- writing
+pub write-high : (n room : ℕ) → 63 < n → writeWord n room ≡ refusal notOffered
+unfolding writeWord
+write-high n room h = simp (lt-ltb 63 n h)
+
+pub write-short : (n room : ℕ) → n ≤ 63 → room < 32 → writeWord n room ≡ refusal noRoom
+unfolding writeWord
+write-short n room h l = simp (le-ltb 63 n h, lt-ltb room 32 l)
+
+pub write-done : (n room : ℕ) → n ≤ 63 → 32 ≤ room → writeWord n room ≡ writing (map byte (wordBits n))
+unfolding writeWord
+write-done n room h l = simp (le-ltb 63 n h, le-ltb room 32 l)
+
+-- one of the three ways it goes
+pub data Writing (n room : ℕ) : Type 0 where
+  too-high : 63 < n → writeWord n room ≡ refusal notOffered → Writing n room
+  too-short : n ≤ 63 → room < 32 → writeWord n room ≡ refusal noRoom → Writing n room
+  writes : n ≤ 63 → 32 ≤ room → writeWord n room ≡ writing (map byte (wordBits n)) → Writing n room
+
+pub writing-goes : (n room : ℕ) → Writing n room
+writing-goes n room = decided (ltb 63 n) (ltb room 32) refl refl
+  where
+    decided : (high short : Bool) → ltb 63 n ≡ high → ltb room 32 ≡ short → Writing n room
+    decided true short h s = too-high (ltb-true 63 n h) (write-high n room (ltb-true 63 n h))
+    decided false true h s = too-short (ltb-false 63 n h) (ltb-true room 32 s) (write-short n room (ltb-false 63 n h) (ltb-true room 32 s))
+    decided false false h s = writes (ltb-false 63 n h) (ltb-false room 32 s) (write-done n room (ltb-false 63 n h) (ltb-false room 32 s))
+
+pub length-word : (n : ℕ) → length (map byte (wordBits n)) ≡ 32
+length-word n = simp (length-map, length-highFirst)
+
+-- ---- reading
+pub read-length : (row : List ℕ) → (length row ≡ 32 → ⊥) → readWord row ≡ refused wrongLength
+unfolding readWord
+read-length row h = simp (ne-eqb (length row) 32 h)
+
+pub read-no-bit : (row : List ℕ) → length row ≡ 32 → allBits row ≡ false → readWord row ≡ refused noBit
+unfolding readWord
+read-no-bit row h e = rw (eq-eqb (length row) 32 h, e)
+
+pub read-near : (row : List ℕ) → length row ≡ 32 → allBits row ≡ true → readWord row ≡ firstNear (number (map isOne row)) 0 64
+unfolding readWord
+read-near row h e = rw (eq-eqb (length row) 32 h, e)
+
+-- ---- the search, number by number
+left : (n : ℕ) → n < 64 → 64 - n ≡ suc (64 - (n + 1))
+left n h = omega arith
+
+pub near-here : (received n : ℕ) → n < 64 → distance (wordOf n) received ≤ 7 → firstNear received n (64 - n) ≡ found n (distance (wordOf n) received)
+unfolding firstNear
+near-here received n h d = rw (left n h, le-leb (distance (wordOf n) received) 7 d)
+
+pub near-later : (received n : ℕ) → n < 64 → 7 < distance (wordOf n) received → firstNear received n (64 - n) ≡ firstNear received (n + 1) (64 - (n + 1))
+unfolding firstNear
+near-later received n h d = rw (left n h, lt-leb (distance (wordOf n) received) 7 d)
+
+pub near-none : (received n : ℕ) → 64 ≤ n → firstNear received n (64 - n) ≡ refused noWord
+unfolding firstNear
+near-none received n h = let none : 64 - n ≡ 0 = omega arith in rw none

@@ -1,0 +1,4 @@
+pub mod Apart
+pub mod Calls
+pub mod Exact
+pub mod Rows

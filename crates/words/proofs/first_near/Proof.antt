@@ -1,0 +1,70 @@
+-- Number by number: the search from here on is the whole search. Assumes nothing.
+use mathlib.Core.Path.{_≡_, refl, sym, ap, _∙_}
+use Prim.Native.Nat.{ℕ, _-_, _≤_}
+use native.Mathlib.Omega.{arith}
+use borrow.Author.Needs.{needs}
+use Rattle.words.specs.Word.{wordOf, distance}
+use Rattle.words.specs.Calls.{firstNear}
+use Rattle.words.proofs.Calls.{near-here, near-later, near-none}
+use Rattle.words.proofs.first_near.Statement.{statement}
+use Rattle.words.proofs.first_near.Tie as tie
+use Rattle.words.proofs.first_near.Reads as reads
+use Rattle.words.proofs.first_near.Lts as lts
+use Rattle.bits.proofs.distance.Reads as distance-reads
+use Rattle.words.proofs.word_of.Reads as word-of-reads
+
+wrong-is : (n received : ℕ) {w d : ℕ} → w ≡ wordOf n → d ≡ distance w received → d ≡ distance (wordOf n) received
+wrong-is n received e f = f ∙ ap (λ (w : ℕ). distance w received) e
+
+abbrev Inv-loop : tie.InvT-loop
+Inv-loop received number₀ number = (number ≤ 64) × (firstNear received number (64 - number) ≡ firstNear received 0 64)
+
+abbrev μ-loop : tie.MeasureT-loop
+μ-loop received number₀ number = 64 - number
+
+loop-holds : tie.Need-loop-holds Inv-loop μ-loop
+loop-holds c = (search needs, refl)
+
+word-of-requires : tie.Need-word-of-requires Inv-loop μ-loop
+word-of-requires c κs = search needs
+
+distance-requires : tie.Need-distance-requires Inv-loop μ-loop
+distance-requires c κs = search needs
+
+returns : tie.Need-returns Inv-loop μ-loop
+returns c =
+    let at = c .before .before .before .before .loop in
+    let a = c .before .before .before .before .before .args in
+    let wrong = wrong-is (at .number) (a .received) (c .before .before .word-of .ensures) (c .before .distance .ensures) in
+    rw wrong (sym (near-here (a .received) (at .number) (omega arith) (rw wrong at (c .if1 .taken))) ∙ at .inv .1)
+
+add-number : tie.Need-add-number Inv-loop μ-loop
+add-number c = search needs
+
+loop-less : tie.Need-loop-less Inv-loop μ-loop
+loop-less c = search needs
+
+loop-again : tie.Need-loop-again Inv-loop μ-loop
+loop-again c =
+    let at = c .before .before .before .before .loop in
+    let a = c .before .before .before .before .before .args in
+    let wrong = wrong-is (at .number) (a .received) (c .before .before .word-of .ensures) (c .before .distance .ensures) in
+    (search needs, sym (near-later (a .received) (at .number) (omega arith) (rw wrong at (c .if1 .left))) ∙ at .inv .1)
+
+returns-2 : tie.Need-returns-2 Inv-loop μ-loop
+returns-2 c = sym (near-none (c .before .before .args .received) (c .before .loop .number) (omega arith)) ∙ c .before .loop .inv .1
+
+pub first-near-spec : {M : Type 1} → statement M
+first-near-spec =
+    tie.close
+    (tie.spec
+    Inv-loop
+    μ-loop
+    loop-holds
+    word-of-requires
+    distance-requires
+    returns
+    add-number
+    loop-less
+    loop-again
+    returns-2)
