@@ -3,8 +3,8 @@ use mathlib.Core.Path.{_≡_}
 use mathlib.Core.List.{List, [], _++_}
 use Prim.Native.Nat.{ℕ}
 use lib.ListN.{length, drop}
-use Rattle.answers.specs.Numbers.{done}
 use Rattle.answers.specs.declared.Written.{Written}
+use Rattle.answers.specs.Written.{refused, wrote}
 
 -- the answer, and the bytes that are laid at the buffer's start: none on a refusal. It is made of the request and the
 -- buffer's length alone, so what the buffer held before cannot reach it.
@@ -21,10 +21,10 @@ pub record Wrote {Answer : Type 0} (outcome : Outcome Answer) (old new : List �
   pub answers : answer ≡ outcome .answer
   pub leaves : new ≡ laid (outcome .bytes) old
 
--- a writing call that refuses: the number, and 0 for the count
+-- a writing call that refuses
 abbrev pub refusal : ℕ → Outcome Written
-refusal number = record { answer = record { status = number; count = 0 }; bytes = [] }
+refusal number = record { answer = refused number; bytes = [] }
 
--- a writing call that writes: the exact count
+-- a writing call that writes
 abbrev pub writing : List ℕ → Outcome Written
-writing bytes = record { answer = record { status = done; count = length bytes }; bytes = bytes }
+writing bytes = record { answer = wrote (length bytes); bytes = bytes }

@@ -14,7 +14,8 @@ use Rattle.bits.specs.Bits.{byte}
 use Rattle.words.specs.Word.{wordBits}
 use Rattle.words.specs.Calls.{writeWord, readWord, found}
 use Rattle.words.proofs.Apart.{apart, only-one}
-use Rattle.words.proofs.Calls.{Writing, too-high, too-short, writes, writing-goes, write-done, length-word}
+use Rattle.words.proofs.Calls.{write-done, length-word}
+use Rattle.words.proofs.Ways.{Writing, too-high, too-short, writes, writing-goes}
 use Rattle.words.proofs.Exact.{near-found, found-near, refused-far, far-refused, word-back}
 use Rattle.claims.specs.Words.{WroteWord, WordClaims}
 

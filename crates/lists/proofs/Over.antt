@@ -6,7 +6,7 @@ use Prim.Native.Nat.{ℕ, suc, _+_, _<_, _≤_}
 use native.Mathlib.Nat.{add-zero, zero-add, add-assoc}
 use native.Mathlib.Numerals.{add-one}
 use native.Mathlib.Omega.{arith}
-use lib.ListN.{length, set, take, drop, take-append-drop, length-append, length-drop}
+use lib.ListN.{length, set, take, drop, take-append-drop, drop-of-length-le, length-append, length-drop}
 use lib.Seq.{set-split, append-snoc, take-at, drop-at, drop-drop, length-take-le}
 use Rattle.lists.specs.Over.{over, Room, Laying}
 
@@ -67,3 +67,7 @@ module _ {old : List ℕ} {from : ℕ} {goal out : List ℕ} {at : ℕ} {rest : 
   -- at its end nothing is left
   pub done : Laying old from goal out at rest → rest ≡ [] → out ≡ over from goal old
   done w e = sym (over-nil at out) ∙ rw (← e) (w .finish)
+
+-- what is as long as what stood there takes its place whole
+pub over-all : (p old : List ℕ) → length p ≡ length old → over 0 p old ≡ p
+over-all p old e = over-zero p old ∙ ap (λ (rest : List ℕ). p ++ rest) (drop-of-length-le old {i = length p} (omega (arith, e))) ∙ append-nil p

@@ -1,13 +1,12 @@
 -- When each call writes, answers and refuses, one law for each way.
 -- Assumes nothing.
 use mathlib.Core.Path.{_≡_, refl, ap, _∙_}
-use mathlib.Core.Bool.{Bool, true, false}
+use mathlib.Core.Bool.{true, false}
 use mathlib.Core.List.{List, map}
 use Prim.Native.Nat.{ℕ, suc, _+_, _-_, _<_, _≤_}
 use native.Mathlib.Omega.{arith}
-use lib.Dec.{ltb}
 use lib.ListN.{length, length-map}
-use borrow.Author.Tests.{ltb-true, ltb-false, lt-ltb, le-ltb, le-leb, lt-leb, eq-eqb, ne-eqb}
+use borrow.Author.Tests.{lt-ltb, le-ltb, le-leb, lt-leb, eq-eqb, ne-eqb}
 use Rattle.answers.specs.Numbers.{notOffered, wrongLength, noRoom, noBit, noWord}
 use Rattle.answers.specs.Outcome.{refusal, writing}
 use Rattle.bits.specs.Bits.{isOne, byte, allBits}
@@ -28,20 +27,6 @@ write-short n room h l = simp (le-ltb 63 n h, lt-ltb room 32 l)
 pub write-done : (n room : ℕ) → n ≤ 63 → 32 ≤ room → writeWord n room ≡ writing (map byte (wordBits n))
 unfolding writeWord
 write-done n room h l = simp (le-ltb 63 n h, le-ltb room 32 l)
-
--- one of the three ways it goes
-pub data Writing (n room : ℕ) : Type 0 where
-  too-high : 63 < n → writeWord n room ≡ refusal notOffered → Writing n room
-  too-short : n ≤ 63 → room < 32 → writeWord n room ≡ refusal noRoom → Writing n room
-  writes : n ≤ 63 → 32 ≤ room → writeWord n room ≡ writing (map byte (wordBits n)) → Writing n room
-
-pub writing-goes : (n room : ℕ) → Writing n room
-writing-goes n room = decided (ltb 63 n) (ltb room 32) refl refl
-  where
-    decided : (high short : Bool) → ltb 63 n ≡ high → ltb room 32 ≡ short → Writing n room
-    decided true short h s = too-high (ltb-true 63 n h) (write-high n room (ltb-true 63 n h))
-    decided false true h s = too-short (ltb-false 63 n h) (ltb-true room 32 s) (write-short n room (ltb-false 63 n h) (ltb-true room 32 s))
-    decided false false h s = writes (ltb-false 63 n h) (ltb-false room 32 s) (write-done n room (ltb-false 63 n h) (ltb-false room 32 s))
 
 pub length-word : (n : ℕ) → length (map byte (wordBits n)) ≡ 32
 length-word n = simp (length-map, length-highFirst)

@@ -2,3 +2,4 @@ pub mod Apart
 pub mod Calls
 pub mod Exact
 pub mod Rows
+pub mod Ways

@@ -5,7 +5,7 @@ ghost use Prim.Native.Nat.{_<_};
 ghost use lib.ListN.{length};
 ghost use Rattle.answers.specs.Outcome.{Wrote};
 ghost use Rattle.words.specs.Word.{wordOf};
-ghost use Rattle.words.specs.Calls.{writeWord, readWord, firstNear};
+ghost use Rattle.words.specs.Calls.{writeWord, readWord, firstNear, found, refused};
 
 // What reading a link word answers.
 #[repr(C)]
@@ -13,6 +13,28 @@ pub struct Word {
     pub status: u32,
     pub number: u32,
     pub wrong: u32,
+}
+
+// Reading refuses with a number.
+fn refuse(status: u32) -> Word
+    ensures { λ r. ⌜ r ≡ refused status ⌝ }
+{
+    Word {
+        status,
+        number: 0,
+        wrong: 0,
+    }
+}
+
+// Reading finds a number, with the count of wrong places.
+fn find(number: u32, wrong: u32) -> Word
+    ensures { λ r. ⌜ r ≡ found number wrong ⌝ }
+{
+    Word {
+        status: 0,
+        number,
+        wrong,
+    }
 }
 
 // Table 2, the generator, row D0 first.
@@ -48,22 +70,13 @@ pub fn write(number: u32, out: &mut [u8]) -> Written
     ensures { λ r. ⌜ Wrote (writeWord number (length (now (out .entry)))) (now (out .entry)) (now (out .exit)) r ⌝ }
 {
     if number > 63 {
-        return Written {
-            status: 1,
-            count: 0,
-        };
+        return answers::refuse(1);
     }
     if out.len() < 32 {
-        return Written {
-            status: 3,
-            count: 0,
-        };
+        return answers::refuse(3);
     }
     bits::lay_row(word_of(number), out, 0);
-    Written {
-        status: 0,
-        count: 32,
-    }
+    answers::done(32)
 }
 
 // The first number whose word is within seven places of a received word.
@@ -73,18 +86,10 @@ fn first_near(received: u32) -> Word
     for number in 0..64u32 {
         let wrong = bits::distance(word_of(number), received);
         if wrong <= 7 {
-            return Word {
-                status: 0,
-                number,
-                wrong,
-            };
+            return find(number, wrong);
         }
     }
-    Word {
-        status: 6,
-        number: 0,
-        wrong: 0,
-    }
+    refuse(6)
 }
 
 // Reads 32 bits, one to a byte, as a link word.
@@ -92,18 +97,10 @@ pub fn read(row: &[u8]) -> Word
     ensures { λ r. ⌜ r ≡ readWord (now (row .entry)) ⌝ }
 {
     if row.len() != 32 {
-        return Word {
-            status: 2,
-            number: 0,
-            wrong: 0,
-        };
+        return refuse(2);
     }
     if !bits::all_bits(row) {
-        return Word {
-            status: 4,
-            number: 0,
-            wrong: 0,
-        };
+        return refuse(4);
     }
     first_near(bits::number_of(row))
 }

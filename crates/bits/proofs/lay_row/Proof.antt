@@ -13,8 +13,6 @@ use Rattle.bits.specs.Row.{highFirst}
 use Rattle.bits.proofs.Row.{length-highFirst, bits-more, bits-done}
 use Rattle.bits.proofs.lay_row.Statement.{statement}
 use Rattle.bits.proofs.lay_row.Tie as tie
-use Rattle.bits.proofs.lay_row.Reads as reads
-use Rattle.bits.proofs.lay_row.Lts as lts
 
 abbrev Inv-loop : tie.InvT-loop
 Inv-loop word out₀ at i₀ out i = (i ≤ 32) × Laying out₀ at (map byte (highFirst 32 word)) out (at + i) (map byte (highFirst (32 - i) word))

@@ -11,9 +11,6 @@ use Rattle.bits.proofs.Bits.{byte-lt}
 use Rattle.bits.proofs.Row.{number-more, number-done, more-fits, below-32}
 use Rattle.bits.proofs.number_of.Statement.{statement}
 use Rattle.bits.proofs.number_of.Tie as tie
-use Rattle.bits.proofs.number_of.Reads as reads
-use Rattle.bits.proofs.number_of.Lts as lts
-use Rattle.bits.proofs.bit_in.Reads as bit-in-reads
 
 abbrev Inv-loop : tie.InvT-loop
 Inv-loop row word₀ i₀ word i = (i ≤ 32) × (word < 2 ^ i) × (numberOn word (map isOne (drop i row)) ≡ number (map isOne row))

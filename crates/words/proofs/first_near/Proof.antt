@@ -4,14 +4,10 @@ use Prim.Native.Nat.{ℕ, _-_, _≤_}
 use native.Mathlib.Omega.{arith}
 use borrow.Author.Needs.{needs}
 use Rattle.words.specs.Word.{wordOf, distance}
-use Rattle.words.specs.Calls.{firstNear}
+use Rattle.words.specs.Calls.{firstNear, found}
 use Rattle.words.proofs.Calls.{near-here, near-later, near-none}
 use Rattle.words.proofs.first_near.Statement.{statement}
 use Rattle.words.proofs.first_near.Tie as tie
-use Rattle.words.proofs.first_near.Reads as reads
-use Rattle.words.proofs.first_near.Lts as lts
-use Rattle.bits.proofs.distance.Reads as distance-reads
-use Rattle.words.proofs.word_of.Reads as word-of-reads
 
 wrong-is : (n received : ℕ) {w d : ℕ} → w ≡ wordOf n → d ≡ distance w received → d ≡ distance (wordOf n) received
 wrong-is n received e f = f ∙ ap (λ (w : ℕ). distance w received) e
@@ -31,12 +27,15 @@ word-of-requires c κs = search needs
 distance-requires : tie.Need-distance-requires Inv-loop μ-loop
 distance-requires c κs = search needs
 
+find-requires : tie.Need-find-requires Inv-loop μ-loop
+find-requires c κs = search needs
+
 returns : tie.Need-returns Inv-loop μ-loop
 returns c =
-    let at = c .before .before .before .before .loop in
-    let a = c .before .before .before .before .before .args in
-    let wrong = wrong-is (at .number) (a .received) (c .before .before .word-of .ensures) (c .before .distance .ensures) in
-    rw wrong (sym (near-here (a .received) (at .number) (omega arith) (rw wrong at (c .if1 .taken))) ∙ at .inv .1)
+    let at = c .before .before .before .before .before .loop in
+    let a = c .before .before .before .before .before .before .args in
+    let wrong = wrong-is (at .number) (a .received) (c .before .before .before .word-of .ensures) (c .before .before .distance .ensures) in
+    c .find .ensures ∙ ap (found (at .number)) wrong ∙ sym (near-here (a .received) (at .number) (omega arith) (rw wrong at (c .before .if1 .taken))) ∙ at .inv .1
 
 add-number : tie.Need-add-number Inv-loop μ-loop
 add-number c = search needs
@@ -51,8 +50,13 @@ loop-again c =
     let wrong = wrong-is (at .number) (a .received) (c .before .before .word-of .ensures) (c .before .distance .ensures) in
     (search needs, sym (near-later (a .received) (at .number) (omega arith) (rw wrong at (c .if1 .left))) ∙ at .inv .1)
 
+refuse-requires : tie.Need-refuse-requires Inv-loop μ-loop
+refuse-requires c κs = search needs
+
 returns-2 : tie.Need-returns-2 Inv-loop μ-loop
-returns-2 c = sym (near-none (c .before .before .args .received) (c .before .loop .number) (omega arith)) ∙ c .before .loop .inv .1
+returns-2 c =
+    let at = c .before .before .loop in
+    c .refuse .ensures ∙ sym (near-none (c .before .before .before .args .received) (at .number) (omega arith)) ∙ at .inv .1
 
 pub first-near-spec : {M : Type 1} → statement M
 first-near-spec =
@@ -63,8 +67,10 @@ first-near-spec =
     loop-holds
     word-of-requires
     distance-requires
+    find-requires
     returns
     add-number
     loop-less
     loop-again
+    refuse-requires
     returns-2)

@@ -8,20 +8,24 @@ use Rattle.words.specs.Calls.{firstNear}
 use Rattle.words.proofs.Calls.{read-length, read-no-bit, read-near}
 use Rattle.words.proofs.read.Statement.{statement}
 use Rattle.words.proofs.read.Tie as tie
-use Rattle.words.proofs.read.Reads as reads
-use Rattle.words.proofs.read.Lts as lts
-use Rattle.bits.proofs.all_bits.Reads as all-bits-reads
-use Rattle.bits.proofs.number_of.Reads as number-of-reads
-use Rattle.words.proofs.first_near.Reads as first-near-reads
+
+refuse-requires : tie.Need-refuse-requires
+refuse-requires c κs = search needs
 
 returns : tie.Need-returns
-returns c = sym (read-length (c .before .before .args .row .now) (c .if1 .taken))
+returns c = c .refuse .ensures ∙ sym (read-length (c .before .before .before .args .row .now) (c .before .if1 .taken))
 
 all-bits-requires : tie.Need-all-bits-requires
 all-bits-requires c κs = search needs
 
+refuse-requires-2 : tie.Need-refuse-requires-2
+refuse-requires-2 c κs = search needs
+
 returns-2 : tie.Need-returns-2
-returns-2 c = sym (read-no-bit (c .before .before .before .before .args .row .now) (c .before .before .if1 .left) (sym (c .before .all-bits .ensures) ∙ not-true (c .before .all-bits .result) (c .if2 .taken)))
+returns-2 c =
+    let a = c .before .before .before .before .before .args in
+    let none = sym (c .before .before .all-bits .ensures) ∙ not-true (c .before .before .all-bits .result) (c .before .if2 .taken) in
+    c .refuse2 .ensures ∙ sym (read-no-bit (a .row .now) (c .before .before .before .if1 .left) none)
 
 number-of-requires : tie.Need-number-of-requires
 number-of-requires c κs = search needs
@@ -32,9 +36,20 @@ first-near-requires c κs = search needs
 returns-3 : tie.Need-returns-3
 returns-3 c =
     let a = c .before .before .before .before .before .before .args in
-    c .first-near .ensures ∙ ap (λ (w : ℕ). firstNear w 0 64) (c .before .number-of .ensures) ∙ sym (read-near (a .row .now) (c .before .before .before .before .if1 .left) (sym (c .before .before .before .all-bits .ensures) ∙ not-false (c .before .before .before .all-bits .result) (c .before .before .if2 .left)))
+    let all = sym (c .before .before .before .all-bits .ensures) ∙ not-false (c .before .before .before .all-bits .result) (c .before .before .if2 .left) in
+    c .first-near .ensures
+    ∙ ap (λ (w : ℕ). firstNear w 0 64) (c .before .number-of .ensures)
+    ∙ sym (read-near (a .row .now) (c .before .before .before .before .if1 .left) all)
 
 pub read-spec : {M : Type 1} → statement M
 read-spec =
     tie.close
-    (tie.spec returns all-bits-requires returns-2 number-of-requires first-near-requires returns-3)
+    (tie.spec
+    refuse-requires
+    returns
+    all-bits-requires
+    refuse-requires-2
+    returns-2
+    number-of-requires
+    first-near-requires
+    returns-3)

@@ -9,8 +9,6 @@ use Rattle.words.specs.Word.{generator, withRows, wordOf}
 use Rattle.words.proofs.Rows.{row-set, row-clear, rows-done, rows-all}
 use Rattle.words.proofs.word_of.Statement.{statement}
 use Rattle.words.proofs.word_of.Tie as tie
-use Rattle.words.proofs.word_of.Reads as reads
-use Rattle.words.proofs.word_of.Lts as lts
 
 abbrev Inv-loop : tie.InvT-loop
 Inv-loop number rows word₀ d₀ word d = (d ≤ 6) × (rows ≡ generator) × (withRows number word (drop d generator) ≡ wordOf number)

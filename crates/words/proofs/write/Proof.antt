@@ -14,20 +14,22 @@ use Rattle.words.specs.Word.{wordBits}
 use Rattle.words.proofs.Calls.{write-high, write-short, write-done, length-word}
 use Rattle.words.proofs.write.Statement.{statement}
 use Rattle.words.proofs.write.Tie as tie
-use Rattle.words.proofs.write.Reads as reads
-use Rattle.words.proofs.write.Lts as lts
-use Rattle.bits.proofs.lay_row.Reads as lay-row-reads
-use Rattle.words.proofs.word_of.Reads as word-of-reads
+
+refuse-requires : tie.Need-refuse-requires
+refuse-requires c κs = search needs
 
 returns : tie.Need-returns
 returns c =
-    let a = c .before .before .args in
-    refuses 1 (a .out .now) (write-high (a .number) (length (a .out .now)) (omega arith))
+    let a = c .before .before .before .args in
+    refuses 1 (a .out .now) (write-high (a .number) (length (a .out .now)) (omega arith)) (c .refuse .ensures)
+
+refuse-requires-2 : tie.Need-refuse-requires-2
+refuse-requires-2 c κs = search needs
 
 returns-2 : tie.Need-returns-2
 returns-2 c =
-    let a = c .before .before .before .args in
-    refuses 3 (a .out .now) (write-short (a .number) (length (a .out .now)) (omega arith) (omega arith))
+    let a = c .before .before .before .before .args in
+    refuses 3 (a .out .now) (write-short (a .number) (length (a .out .now)) (omega arith) (omega arith)) (c .refuse2 .ensures)
 
 word-of-requires : tie.Need-word-of-requires
 word-of-requires c κs = search needs
@@ -35,17 +37,33 @@ word-of-requires c κs = search needs
 lay-row-requires : tie.Need-lay-row-requires
 lay-row-requires c κs = search needs
 
+done-requires : tie.Need-done-requires
+done-requires c κs = search needs
+
 same-length : tie.Need-same-length
 same-length c = search needs
 
 returns-3 : tie.Need-returns-3
 returns-3 c =
-    let a = c .before .before .before .before .before .before .before .before .args in
+    let a = c .before .before .before .before .before .before .before .before .before .args in
     let bytes = map byte (wordBits (a .number)) in
-    let row = ap (λ (w : ℕ). over 0 (map byte (highFirst 32 w)) (a .out .now)) (c .before .before .before .before .word-of .ensures) in
-    writes bytes (a .out .now) (c .before .before .lay-row .last .1 .0) 32 (write-done (a .number) (length (a .out .now)) (omega arith) (omega arith)) (length-word (a .number))
-    (c .before .before .lay-row .ensures ∙ row ∙ over-zero bytes (a .out .now))
+    let word = ap (λ (w : ℕ). over 0 (map byte (highFirst 32 w)) (a .out .now)) (c .before .before .before .before .before .word-of .ensures) in
+    writes bytes (a .out .now) (c .before .before .before .lay-row .last .1 .0) 32
+    (write-done (a .number) (length (a .out .now)) (omega arith) (omega arith))
+    (length-word (a .number))
+    (c .done .ensures)
+    (c .before .before .before .lay-row .ensures ∙ word ∙ over-zero bytes (a .out .now))
 
 pub write-spec : {M : Type 1} → statement M
 write-spec =
-    tie.close (tie.spec returns returns-2 word-of-requires lay-row-requires same-length returns-3)
+    tie.close
+    (tie.spec
+    refuse-requires
+    returns
+    refuse-requires-2
+    returns-2
+    word-of-requires
+    lay-row-requires
+    done-requires
+    same-length
+    returns-3)

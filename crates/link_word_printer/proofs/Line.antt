@@ -1,0 +1,51 @@
+-- The line before the newline, character by character.
+-- Assumes nothing.
+use mathlib.Core.Path.{_≡_, refl, sym, ap, _∙_}
+use mathlib.Core.Bool.{Bool, true, false, cond}
+use mathlib.Core.List.{List, [], _∷_, map}
+use Prim.Native.Nat.{ℕ, _+_, _<_, _≤_}
+use native.Mathlib.Numerals.{add-one}
+use native.Mathlib.Omega.{arith}
+use lib.Dec.{eqb}
+use lib.ListN.{length, getD, take, drop, drop-of-length-le}
+use lib.Seq.{drop-cons}
+use borrow.Author.Tests.{eq-eqb, ne-eqb}
+use Rattle.link_word_printer.specs.Line.{lineOf, bitOf}
+
+pub line-ends : (input : List ℕ) (i : ℕ) → i < length input → getD input i 0 ≡ 10 → lineOf (drop i input) ≡ []
+unfolding lineOf
+line-ends input i h e = rw (drop-cons input i 0 h, eq-eqb (getD input i 0) 10 e)
+
+pub line-goes-on : (input : List ℕ) (i : ℕ) → i < length input → (getD input i 0 ≡ 10 → ⊥) → lineOf (drop i input) ≡ getD input i 0 ∷ lineOf (drop (i + 1) input)
+unfolding lineOf
+line-goes-on input i h e = rw (drop-cons input i 0 h, ne-eqb (getD input i 0) 10 e, add-one)
+
+pub line-none : (input : List ℕ) (i : ℕ) → length input ≤ i → lineOf (drop i input) ≡ []
+unfolding lineOf
+line-none input i h = rw (drop-of-length-le input h)
+
+-- the line is the front of the input
+pub line-front : (input : List ℕ) → take (length (lineOf input)) input ≡ lineOf input
+unfolding lineOf
+line-front [] = refl
+line-front (c ∷ input) = picked (eqb c 10) (line-front input)
+  where
+    picked : (b : Bool) → take (length (lineOf input)) input ≡ lineOf input → take (length (cond b [] (c ∷ lineOf input))) (c ∷ input) ≡ cond b [] (c ∷ lineOf input)
+    picked true e = refl
+    picked false e = ap (λ (l : List ℕ). c ∷ l) e
+
+pub line-within : (input : List ℕ) → length (lineOf input) ≤ length input
+unfolding lineOf
+line-within [] = omega arith
+line-within (c ∷ input) = picked (eqb c 10) (line-within input)
+  where
+    picked : (b : Bool) → length (lineOf input) ≤ length input → length (cond b [] (c ∷ lineOf input)) ≤ length (c ∷ input)
+    picked true h = omega arith
+    picked false h = omega arith
+
+-- ---- the bits that its characters stand for
+pub bits-more : (line : List ℕ) (i : ℕ) → i < length line → map bitOf (drop i line) ≡ bitOf (getD line i 0) ∷ map bitOf (drop (i + 1) line)
+bits-more line i h = rw (drop-cons line i 0 h, add-one)
+
+pub bits-none : (line : List ℕ) (i : ℕ) → length line ≤ i → map bitOf (drop i line) ≡ []
+bits-none line i h = rw (drop-of-length-le line h)

@@ -1,0 +1,73 @@
+-- Every turn adds bytes, and never more than there is room for. Assumes nothing.
+use mathlib.Core.Path.{_≡_, refl, sym, _∙_}
+use Prim.Native.Nat.{_-_, _≤_}
+use native.Mathlib.Omega.{arith}
+use lib.ListN.{length}
+use borrow.Author.Needs.{needs}
+use Rattle.link_word_printer.proofs.read_line.Statement.{statement}
+use Rattle.link_word_printer.proofs.read_line.Tie as tie
+
+abbrev Inv-loop : tie.InvT-loop
+Inv-loop buffer₀ have₀ buffer have = (have ≤ length buffer) × (length buffer ≡ length buffer₀)
+
+abbrev μ-loop : tie.MeasureT-loop
+μ-loop buffer₀ have₀ buffer have = length buffer - have
+
+loop-holds : tie.Need-loop-holds Inv-loop μ-loop
+loop-holds c = search needs
+
+read-more-requires : tie.Need-read-more-requires Inv-loop μ-loop
+read-more-requires c κs = search needs
+
+add-all : tie.Need-add-all Inv-loop μ-loop
+add-all c = search needs
+
+sub-line-end : tie.Need-sub-line-end Inv-loop μ-loop
+sub-line-end c = search needs
+
+part-line-end-start : tie.Need-part-line-end-start Inv-loop μ-loop
+part-line-end-start c = search needs
+
+part-line-end-end : tie.Need-part-line-end-end Inv-loop μ-loop
+part-line-end-end c = search needs
+
+line-end-requires : tie.Need-line-end-requires Inv-loop μ-loop
+line-end-requires c κs = search needs
+
+same-length : tie.Need-same-length Inv-loop μ-loop
+same-length c = search needs
+
+returns : tie.Need-returns Inv-loop μ-loop
+returns c = search needs
+
+loop-less : tie.Need-loop-less Inv-loop μ-loop
+loop-less c = search needs
+
+loop-again : tie.Need-loop-again Inv-loop μ-loop
+loop-again c = search needs
+
+same-length-2 : tie.Need-same-length-2 Inv-loop μ-loop
+same-length-2 c = search needs
+
+returns-2 : tie.Need-returns-2 Inv-loop μ-loop
+returns-2 c = search needs
+
+pub read-line-spec : {M : Type 1} → statement M
+read-line-spec =
+    tie.close
+    (tie.spec
+    Inv-loop
+    μ-loop
+    loop-holds
+    read-more-requires
+    add-all
+    sub-line-end
+    part-line-end-start
+    part-line-end-end
+    line-end-requires
+    same-length
+    returns
+    loop-less
+    loop-again
+    same-length-2
+    returns-2)

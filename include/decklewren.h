@@ -1,0 +1,63 @@
+/* Decklewren: the burst coder of a VHF data exchange (VDES) module, ITU-R M.2092-1.
+
+   Every call returns, touches nothing but the buffers it is lent, and keeps nothing between calls.
+   A call that cannot be met answers the number of its refusal as status, 0 for all else, and
+   changes no byte. Equal requests with equally long buffers give equal answers and write equal
+   bytes, whatever the buffers held before. The Rattle sources of these calls are proved to meet
+   their contracts; this header, the compiler's back end and the C side are not covered by a proof.
+
+   What a caller keeps to: a pointer is valid for the length that follows it, for writing where it
+   is not const, and is not null, not even at length 0; buffers of one call do not overlap.
+
+   Bits travel one to a byte, with the byte 0 or 1.
+
+   status  when
+     0     done
+     1     number above 63 for a link word
+     2     link word of the wrong length
+     3     output buffer too short
+     4     a byte neither 0 nor 1
+     6     no code word within seven */
+
+#ifndef DECKLEWREN_H
+#define DECKLEWREN_H
+
+#include <stddef.h>
+#include <stdint.h>
+
+#ifdef __cplusplus
+extern "C" {
+#endif
+
+/* What a writing call answers: count is the number of bytes laid at the buffer's start. */
+typedef struct {
+    uint32_t status;
+    uint32_t count;
+} decklewren_written;
+
+/* What reading a link word answers: wrong is the number of places where it differs. */
+typedef struct {
+    uint32_t status;
+    uint32_t number;
+    uint32_t wrong;
+} decklewren_word;
+
+/* Writes the link word of a number (M.2092-1, Annex 2, 1.2.3.4).
+   In:      number, 0 to 63
+   Out:     32 bytes 0 or 1 at the start of out; bytes behind stay
+   Returns: status 0 and count 32; else, the first of these that applies:
+            1 number above 63, 3 out_len below 32 */
+decklewren_written decklewren_write_word(uint32_t number, uint8_t *out, size_t out_len);
+
+/* Reads 32 bits as a link word.
+   In:      bits, 32 bytes 0 or 1
+   Returns: status 0, the number whose word is within seven places, and how many places are wrong;
+            else, the first of these that applies:
+            2 bits_len is not 32, 4 a byte neither 0 nor 1, 6 no code word within seven */
+decklewren_word decklewren_read_word(const uint8_t *bits, size_t bits_len);
+
+#ifdef __cplusplus
+}
+#endif
+
+#endif
