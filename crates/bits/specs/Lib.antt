@@ -1,2 +1,4 @@
 pub mod Bits
+pub mod Datagram
 pub mod Row
+pub mod Xor

@@ -1,0 +1,19 @@
+-- A datagram as bits: first byte first, most significant bit first (document 01, "What the module does").
+use mathlib.Core.Bool.{Bool, false}
+use mathlib.Core.List.{List, [], _∷_, _++_}
+use Prim.Native.Nat.{ℕ, zero, suc}
+use lib.ListN.{take, drop, replicate}
+use Rattle.bits.specs.Row.{highFirst, number}
+
+unfoldable pub bitsOf : List ℕ → List Bool
+bitsOf [] = []
+bitsOf (b ∷ datagram) = highFirst 8 b ++ bitsOf datagram
+
+-- n bits of a row, zero bits behind its end
+unfoldable pub filled : ℕ → List Bool → List Bool
+filled n row = take n (row ++ replicate n false)
+
+-- the m bytes that a row begins with
+unfoldable pub bytesOf : ℕ → List Bool → List ℕ
+bytesOf zero row = []
+bytesOf (suc m) row = number (take 8 row) ∷ bytesOf m (drop 8 row)

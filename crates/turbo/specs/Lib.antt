@@ -1,0 +1,3 @@
+pub mod Coded
+pub mod Encoder
+pub mod Interleaver
