@@ -2,10 +2,10 @@
 -- Assumes nothing.
 use mathlib.Core.Path.{_≡_, refl, sym, ap, ap₂, _∙_}
 use Prim.Native.Nat.{ℕ, zero, suc, _+_, _*_, _/_, _%_, _^_, _<_}
-use native.Mathlib.Nat.{mod-lt, zero-lt-suc}
+use native.Mathlib.Nat.{add-zero, zero-mul, mod-lt, zero-lt-suc}
 use native.Mathlib.Omega.{arith}
 use lib.Arith.{bin-ind, digits-mod}
-use lib.Bits.{bitXor, differ, xor-step, xor-zero-r, xor-comm, xor-self, xor-shr, xor-lt}
+use lib.Bits.{bitXor, differ, xor-step, xor-zero-r, xor-comm, xor-self, xor-shr, xor-mod, xor-block, xor-lt}
 use Rattle.bits.specs.Xor.{_⊕_}
 
 -- ---- digit by digit
@@ -78,3 +78,22 @@ pub ⊕-middle : (a b c d : ℕ) → (a ⊕ b) ⊕ (c ⊕ d) ≡ (a ⊕ c) ⊕ (
 -- two terms whose sum is 0 are equal
 pub ⊕-equal : (a b : ℕ) → a ⊕ b ≡ 0 → a ≡ b
 ⊕-equal a b e = sym (⊕-zero a) ∙ ap (λ (x : ℕ). a ⊕ x) (sym (⊕-self b)) ∙ sym (⊕-assoc a b b) ∙ ap (λ (x : ℕ). x ⊕ b) e ∙ zero-⊕ b
+
+-- ---- shifted, and one digit of it
+pub ⊕-double : (a b : ℕ) → (a ⊕ b) * 2 ≡ (a * 2) ⊕ (b * 2)
+unfolding _⊕_
+⊕-double a b = sym (add-zero (bitXor a b * 2)) ∙ sym (xor-block 1 a b 0 0 (zero-lt-suc 1) (zero-lt-suc 1)) ∙ ap₂ bitXor (add-zero (a * 2)) (add-zero (b * 2))
+
+-- two digits, each as many times c
+pub ⊕-times : (c x y : ℕ) → x < 2 → y < 2 → (x ⊕ y) * c ≡ (x * c) ⊕ (y * c)
+⊕-times c zero y h l = simp (zero-mul, zero-⊕)
+⊕-times c (suc zero) zero h l = simp (zero-mul, ⊕-zero)
+⊕-times c (suc zero) (suc zero) h l = simp (⊕-self, zero-mul)
+⊕-times c (suc zero) (suc (suc y)) h l = absurd (omega arith)
+⊕-times c (suc (suc x)) y h l = absurd (omega arith)
+
+pub ⊕-digit : (i c a b : ℕ) → (a ⊕ b) / 2 ^ i % 2 * c ≡ (a / 2 ^ i % 2 * c) ⊕ (b / 2 ^ i % 2 * c)
+⊕-digit i c a b = ap (λ (x : ℕ). x * c) (digit i a b) ∙ ⊕-times c (a / 2 ^ i % 2) (b / 2 ^ i % 2) (odd (a / 2 ^ i)) (odd (b / 2 ^ i))
+  where
+    digit : (i a b : ℕ) → (a ⊕ b) / 2 ^ i % 2 ≡ (a / 2 ^ i % 2) ⊕ (b / 2 ^ i % 2)
+    digit i a b = unfold _⊕_ in ap (λ (n : ℕ). n % 2) (xor-shr a b i) ∙ xor-mod (a / 2 ^ i) (b / 2 ^ i) 1
