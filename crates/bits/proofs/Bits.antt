@@ -35,7 +35,7 @@ all-bytes [] = refl
 all-bytes (true ∷ row) = all-bytes row
 all-bytes (false ∷ row) = all-bytes row
 
-both-true : (a b : Bool) → (a && b) ≡ true → (a ≡ true) × (b ≡ true)
+pub both-true : (a b : Bool) → (a && b) ≡ true → (a ≡ true) × (b ≡ true)
 both-true true b e = (refl, e)
 both-true false b e = absurd (let w : _≡_ {A = ℕ} 0 1 = cc in omega arith)
 

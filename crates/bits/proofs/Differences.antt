@@ -1,11 +1,11 @@
 -- The number of places where two rows differ is a distance.
 -- Assumes nothing.
-use mathlib.Core.Path.{_≡_, refl, ap₂}
+use mathlib.Core.Path.{_≡_, refl, ap, ap₂}
 use mathlib.Core.Bool.{Bool, true, false}
 use mathlib.Core.List.{List, [], _∷_}
-use Prim.Native.Nat.{ℕ, suc, _+_, _≤_, zero-le}
+use Prim.Native.Nat.{ℕ, zero, suc, _+_, _≤_, zero-le}
 use native.Mathlib.Omega.{arith}
-use lib.ListN.{length}
+use lib.ListN.{length, drop, length-drop}
 use Rattle.bits.specs.Row.{differ, differences}
 
 pub differences-self : (xs : List Bool) → differences xs xs ≡ 0
@@ -62,3 +62,22 @@ differences-triangle (x ∷ xs) [] [] = omega arith
 differences-triangle (x ∷ xs) [] (z ∷ zs) = differences-le (x ∷ xs) (z ∷ zs)
 differences-triangle (x ∷ xs) (y ∷ ys) [] = omega (arith, length-differences (y ∷ ys) (x ∷ xs), differences-comm (x ∷ xs) (y ∷ ys))
 differences-triangle (x ∷ xs) (y ∷ ys) (z ∷ zs) = omega (arith, differences-triangle xs ys zs, differ-triangle x y z)
+
+-- no place differs only where the rows are equal
+pub differences-zero : (xs ys : List Bool) → differences xs ys ≡ 0 → xs ≡ ys
+unfolding differences
+differences-zero [] [] e = refl
+differences-zero [] (y ∷ ys) e = absurd (omega arith)
+differences-zero (x ∷ xs) [] e = absurd (omega arith)
+differences-zero (true ∷ xs) (true ∷ ys) e = ap {B = List Bool} (λ l. true ∷ l) (differences-zero xs ys (omega arith))
+differences-zero (true ∷ xs) (false ∷ ys) e = absurd (omega arith)
+differences-zero (false ∷ xs) (true ∷ ys) e = absurd (omega arith)
+differences-zero (false ∷ xs) (false ∷ ys) e = ap {B = List Bool} (λ l. false ∷ l) (differences-zero xs ys (omega arith))
+
+-- places left out bring no two rows further apart
+pub differences-drop : (n : ℕ) (xs ys : List Bool) → differences (drop n xs) (drop n ys) ≤ differences xs ys
+unfolding differences
+differences-drop zero xs ys = omega arith
+differences-drop (suc n) [] ys = omega (arith, length-drop (suc n) ys)
+differences-drop (suc n) (x ∷ xs) [] = omega (arith, differences-comm (drop n xs) [], length-drop n xs)
+differences-drop (suc n) (x ∷ xs) (y ∷ ys) = omega (arith, differences-drop n xs ys)

@@ -1,5 +1,5 @@
 -- Rows of bits, as numbers and against each other.
-use mathlib.Core.Bool.{Bool, true, false}
+use mathlib.Core.Bool.{Bool, true, false, not}
 use mathlib.Core.List.{List, [], _∷_}
 use Prim.Native.Nat.{ℕ, zero, suc, _+_, _*_, _/_, _%_, _^_}
 use lib.ListN.{length}
@@ -31,3 +31,9 @@ unfoldable pub differences : List Bool → List Bool → ℕ
 differences [] ys = length ys
 differences (x ∷ xs) [] = suc (length xs)
 differences (x ∷ xs) (y ∷ ys) = differ x y + differences xs ys
+
+-- a row with the bit at one place inverted
+unfoldable pub flip : ℕ → List Bool → List Bool
+flip i [] = []
+flip zero (b ∷ row) = not b ∷ row
+flip (suc i) (b ∷ row) = b ∷ flip i row

@@ -1,0 +1,67 @@
+-- The register on 32 bits, as code computes it.
+-- Assumes nothing.
+use mathlib.Core.Path.{_≡_, refl, sym, ap, ap₂, _∙_}
+use mathlib.Core.Bool.{Bool, true, false}
+use mathlib.Core.List.{List, [], _∷_, map}
+use Prim.Native.Nat.{ℕ, _+_, _*_, _/_, _%_, _^_, _<_, _≤_}
+use native.Mathlib.Nat.{zero-add}
+use native.Mathlib.Numerals.{add-one}
+use native.Mathlib.Omega.{arith}
+use lib.Bits.{bitXor, xor-block, xor-self, xor-lt}
+use lib.ListN.{length, getD, drop, drop-of-length-le}
+use lib.Seq.{drop-cons}
+use Rattle.bits.specs.Bits.{isOne, byte}
+use Rattle.bits.specs.Xor.{_⊕_}
+use Rattle.bits.proofs.Bits.{byte-lt}
+use Rattle.bits.proofs.Xor.{⊕-is, ⊕-comm, ⊕-left-comm, ⊕-lt, ⊕-times}
+use Rattle.check32.specs.Check.{generator, x32, timesX, step, registerFrom}
+
+-- equal digits from 2^32 on fall away
+above : (t a b : ℕ) → a < 2 ^ 32 → b < 2 ^ 32 → (t * 2 ^ 32 + a) ⊕ (t * 2 ^ 32 + b) ≡ a ⊕ b
+unfolding _⊕_
+above t a b h l = xor-block 32 t t a b h l ∙ ap (λ (x : ℕ). x * 2 ^ 32 + bitXor a b) (xor-self t) ∙ zero-add (bitXor a b)
+
+module _ (r : ℕ) (h : r < 2 ^ 32) where
+  -- the top bit, and the register moved up by one place
+  abbrev top : ℕ
+  top = r / 2 ^ 31
+
+  abbrev moved : ℕ
+  moved = r * 2 % 2 ^ 32
+
+  timesX-word : timesX r ≡ (top * x32) ⊕ moved
+  unfolding timesX
+  timesX-word =
+      let one : r / 2 ^ 31 % 2 * generator ≡ top * 2 ^ 32 + top * x32 = omega arith in
+      let two : r * 2 ≡ top * 2 ^ 32 + moved = omega arith in
+      ap₂ _⊕_ one two ∙ above top (top * x32) moved (omega arith) (omega arith)
+
+  pub step-word : (b : Bool) (bit : ℕ) → bit ≡ byte b → bitXor moved (bitXor top bit * x32) ≡ step r b
+  unfolding step
+  step-word b bit e =
+      ⊕-is moved (bitXor top bit * x32)
+      ∙ ap (λ (x : ℕ). moved ⊕ x) (ap (λ (x : ℕ). x * x32) (ap (bitXor top) e ∙ ⊕-is top (byte b)) ∙ ⊕-times x32 top (byte b) (omega arith) (byte-lt b))
+      ∙ simp (timesX-word, ⊕-comm, ⊕-left-comm)
+
+  pub product-fits : (bit : ℕ) → bit < 2 → bitXor top bit * x32 < 2 ^ 32
+  product-fits bit l = omega (arith, xor-lt 1 top bit (omega arith) l)
+
+  pub step-lt : (b : Bool) → step r b < 2 ^ 32
+  unfolding step
+  step-lt b =
+      rw timesX-word (⊕-lt 32 (byte b * x32) ((top * x32) ⊕ moved) (omega (arith, byte-lt b)) (⊕-lt 32 (top * x32) moved (omega arith) (omega arith)))
+
+pub registerFrom-lt : (r : ℕ) (row : List Bool) → r < 2 ^ 32 → registerFrom r row < 2 ^ 32
+unfolding registerFrom
+registerFrom-lt r [] h = h
+registerFrom-lt r (b ∷ row) h = registerFrom-lt (step r b) row (step-lt r h b)
+
+-- ---- over a row of bytes, byte by byte
+pub register-more : (row : List ℕ) (r i : ℕ) → i < length row
+    → registerFrom r (map isOne (drop i row)) ≡ registerFrom (step r (isOne (getD row i 0))) (map isOne (drop (i + 1) row))
+unfolding registerFrom
+register-more row r i h = rw (drop-cons row i 0 h, add-one)
+
+pub register-done : (row : List ℕ) (r i : ℕ) → length row ≤ i → registerFrom r (map isOne (drop i row)) ≡ r
+unfolding registerFrom
+register-done row r i h = rw (drop-of-length-le row h)

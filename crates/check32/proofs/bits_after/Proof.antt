@@ -1,0 +1,69 @@
+-- Residue by residue: the search from here on is the whole search. Assumes nothing.
+use mathlib.Core.Path.{_≡_, refl, sym, ap, _∙_}
+use mathlib.Core.Bool.{false}
+use Prim.Native.Nat.{ℕ, _-_, _≤_}
+use native.Mathlib.Nat.{sub-zero}
+use native.Mathlib.Omega.{arith}
+use borrow.Author.Needs.{needs}
+use Rattle.check32.specs.Check.{step}
+use Rattle.check32.specs.Residue.{residue, firstResidue, bitsAfter}
+use Rattle.check32.proofs.Residue.{residue-start, residue-next, residue-here, residue-later, residue-none}
+use Rattle.check32.proofs.bits_after.Statement.{statement}
+use Rattle.check32.proofs.bits_after.Tie as tie
+use Rattle.check32.proofs.bits_after.Reads as reads
+use Rattle.check32.proofs.bits_after.Lts as lts
+use Rattle.check32.proofs.step.Reads as step-reads
+
+abbrev Inv-loop : tie.InvT-loop
+Inv-loop register k r₀ n₀ r n = (n ≤ k) × (r ≡ residue n) × (firstResidue register n (k - n) ≡ bitsAfter register k)
+
+abbrev μ-loop : tie.MeasureT-loop
+μ-loop register k r₀ n₀ r n = k - n
+
+loop-holds : tie.Need-loop-holds Inv-loop μ-loop
+loop-holds c = (search needs, sym residue-start, rw sub-zero)
+
+returns : tie.Need-returns Inv-loop μ-loop
+returns c =
+    let at = c .before .before .loop in
+    let a = c .before .before .before .args in
+    sym (residue-here (a .register) (at .n) (a .k) (omega arith) (sym (at .inv .1) ∙ c .if1 .taken)) ∙ at .inv .2
+
+step-requires : tie.Need-step-requires Inv-loop μ-loop
+step-requires c κs = search needs
+
+add-n : tie.Need-add-n Inv-loop μ-loop
+add-n c = search needs
+
+loop-less : tie.Need-loop-less Inv-loop μ-loop
+loop-less c = search needs
+
+loop-again : tie.Need-loop-again Inv-loop μ-loop
+loop-again c =
+    let at = c .before .before .before .loop in
+    let a = c .before .before .before .before .args in (
+      search needs,
+      c .step .ensures ∙ ap (λ (r : ℕ). step r false) (at .inv .1) ∙ residue-next (at .n),
+      sym (residue-later (a .register) (at .n) (a .k) (omega arith) (λ e. c .before .if1 .left (at .inv .1 ∙ e))) ∙ at .inv .2,
+    )
+
+returns-2 : tie.Need-returns-2 Inv-loop μ-loop
+returns-2 c =
+    let at = c .before .loop in
+    let a = c .before .before .args in
+    let end : at .n ≡ a .k = omega arith in
+    sym end ∙ sym (residue-none (a .register) (at .n) (a .k) (omega arith)) ∙ at .inv .2
+
+pub bits-after-spec : {M : Type 1} → statement M
+bits-after-spec =
+    tie.close
+    (tie.spec
+    Inv-loop
+    μ-loop
+    loop-holds
+    returns
+    step-requires
+    add-n
+    loop-less
+    loop-again
+    returns-2)

@@ -1,0 +1,39 @@
+// The 32-bit check (M.2092-1, Annex 2, 1.2.5): the register over a row of bits, and the bit that it tells of.
+ghost use mathlib.Core.Path.{_≡_};
+ghost use mathlib.Core.List.{map};
+ghost use Rattle.bits.specs.Bits.{isOne};
+ghost use Rattle.check32.specs.Check.{step, register};
+ghost use Rattle.check32.specs.Residue.{bitsAfter};
+
+// One bit goes into the register.
+pub fn step(r: u32, bit: bool) -> u32
+    ensures { λ v. ⌜ v ≡ step r bit ⌝ }
+{
+    let top = (r >> 31) ^ (bit as u32);
+    (r << 1) ^ (top * 0x04C11DB7)
+}
+
+// The register after a row of bits, one to a byte: 0 where the row closes.
+pub fn register(bits: &[u8]) -> u32
+    ensures { λ r. ⌜ r ≡ register (map isOne (now (bits .entry))) ⌝ }
+{
+    let mut r: u32 = 0xFFFFFFFF;
+    for i in 0..bits.len() {
+        r = step(r, bits[i] == 1);
+    }
+    r
+}
+
+// How many bits of a row of k come after the one wrong bit that leaves this register: k where no one bit does.
+pub fn bits_after(register: u32, k: usize) -> usize
+    ensures { λ n. ⌜ n ≡ bitsAfter register k ⌝ }
+{
+    let mut residue: u32 = 0x04C11DB7;
+    for n in 0..k {
+        if residue == register {
+            return n;
+        }
+        residue = step(residue, false);
+    }
+    k
+}

@@ -1,0 +1,71 @@
+-- Which flips of a row close, and that two rows that close differ in at least three places.
+-- Assumes nothing.
+use mathlib.Core.Path.{_≡_, refl, sym, ap, _∙_}
+use mathlib.Core.Logic.{_↔_}
+use mathlib.Core.Bool.{Bool}
+use mathlib.Core.List.{List}
+use Prim.Native.Nat.{ℕ, zero, suc, _-_, _<_, _≤_}
+use native.Mathlib.Omega.{arith}
+use lib.ListN.{length}
+use Rattle.bits.specs.Row.{differences, flip}
+use Rattle.bits.specs.Xor.{_⊕_}
+use Rattle.bits.proofs.Differences.{differences-zero}
+use Rattle.bits.proofs.Flip.{length-flip, flip-flip, nearer}
+use Rattle.bits.proofs.Xor.{⊕-self, ⊕-equal}
+use Rattle.check32.specs.Check.{register, Closes}
+use Rattle.check32.specs.Residue.{residue, bitsAfter}
+use Rattle.check32.proofs.Linear.{registerFrom-flip, residue-not-zero}
+use Rattle.check32.proofs.Residue.{bitsAfter-found, bitsAfter-first}
+use Rattle.distance.specs.Coding.{longest}
+use Rattle.distance.specs.Reading.{wrongAfter, wrongPlace}
+use Rattle.distance.proofs.Residues.{residues-differ}
+
+-- a flip closes where the residue of its place is the register
+flip-closes : (row : List Bool) (i : ℕ) → i < length row → Closes (flip i row) ↔ (residue (length row - suc i) ≡ register row)
+flip-closes row i h = (
+  λ c. sym (⊕-equal (register row) (residue (length row - suc i)) (sym (registerFrom-flip 0xFFFFFFFF i row h) ∙ c)),
+  λ e. registerFrom-flip 0xFFFFFFFF i row h ∙ ap (λ (r : ℕ). register row ⊕ r) e ∙ ⊕-self (register row),
+)
+
+-- no flip of a row that closes does
+pub closes-alone : (row : List Bool) (i : ℕ) → i < length row → Closes row → Closes (flip i row) → ⊥
+closes-alone row i h c d = residue-not-zero (length row - suc i) (flip-closes row i h .0 d ∙ c)
+
+-- the flip that closes is the one that the register tells of
+pub flip-told : (row : List Bool) (i : ℕ) → length row ≤ longest → i < length row → Closes (flip i row) → (wrongAfter row < length row) × (i ≡ wrongPlace row)
+flip-told row i l h c =
+    let after = length row - suc i in
+    let e : residue after ≡ register row = flip-closes row i h .0 c in
+    let first : wrongAfter row ≤ after = bitsAfter-first (register row) (length row) after (omega arith) e in
+    let same : wrongAfter row ≡ after = residues-differ (wrongAfter row) after (omega arith) (omega arith) (bitsAfter-found (register row) (length row) (omega arith) ∙ sym e) in
+    (omega arith, omega arith)
+
+pub told-closes : (row : List Bool) → wrongAfter row < length row → Closes (flip (wrongPlace row) row)
+told-closes row h =
+    let back : length row - suc (wrongPlace row) ≡ wrongAfter row = omega arith in
+    flip-closes row (wrongPlace row) (omega arith) .1 (ap residue back ∙ bitsAfter-found (register row) (length row) h)
+
+-- at most one flip of a row closes
+one-flip : (row : List Bool) (i j : ℕ) → length row ≤ longest → i < length row → j < length row → Closes (flip i row) → Closes (flip j row) → i ≡ j
+one-flip row i j l h h' c c' = flip-told row i l h c .1 ∙ sym (flip-told row j l h' c' .1)
+
+-- rows that close and differ in at most two places are equal
+pub three-apart : (a b : List Bool) → length a ≡ length b → length a ≤ longest → Closes a → Closes b → differences a b ≤ 2 → a ≡ b
+three-apart a b l s ca cb h = by (differences a b) refl h
+  where
+    by : (d : ℕ) → differences a b ≡ d → d ≤ 2 → a ≡ b
+    by zero e h = differences-zero a b e
+    by (suc zero) e h =
+        let w = nearer a b 0 l e in
+        absurd (closes-alone b (w .place) (w .within) cb (ap register (sym (differences-zero a (flip (w .place) b) (w .left))) ∙ ca))
+    by (suc (suc zero)) e h =
+        let w = nearer a b 1 l e in
+        let i = w .place in
+        let between = flip i b in
+        let size = length-flip i b in
+        let v = nearer a between 0 (l ∙ sym size) (w .left) in
+        let from-a : a ≡ flip (v .place) between = differences-zero a (flip (v .place) between) (v .left) in
+        let from-b : b ≡ flip i between = sym (flip-flip i b) in
+        let same = one-flip between (v .place) i (omega arith) (v .within) (omega (arith, w .within)) (ap register (sym from-a) ∙ ca) (ap register (sym from-b) ∙ cb) in
+        from-a ∙ ap (λ (j : ℕ). flip j between) same ∙ sym from-b
+    by (suc (suc (suc d))) e h = absurd (omega arith)

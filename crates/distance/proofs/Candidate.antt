@@ -1,0 +1,74 @@
+-- The one candidate: it closes, and it is the only row within one place that does.
+-- Assumes nothing.
+use mathlib.Core.Path.{_≡_, refl, sym, ap, _∙_}
+use mathlib.Core.Bool.{Bool, true, false, cond}
+use mathlib.Core.List.{List}
+use mathlib.Core.Option.{Option, none, some, Option·none-ne-some}
+use Prim.Native.Nat.{ℕ, zero, suc, _<_, _≤_}
+use native.Mathlib.Omega.{arith}
+use lib.Dec.{eqb, ltb}
+use lib.ListN.{length}
+use borrow.Author.Tests.{eqb-true, ltb-true, eq-eqb, ne-eqb, lt-ltb, le-ltb}
+use Rattle.bits.specs.Row.{differences, flip}
+use Rattle.bits.proofs.Differences.{differences-zero}
+use Rattle.bits.proofs.Flip.{length-flip, nearer}
+use Rattle.check32.specs.Check.{register, Closes}
+use Rattle.distance.specs.Coding.{longest}
+use Rattle.distance.specs.Reading.{wrongAfter, wrongPlace, candidate, passing}
+use Rattle.distance.proofs.Apart.{closes-alone, flip-told, told-closes}
+
+-- ---- the three ways it goes
+pub candidate-row : (row : List Bool) → Closes row → candidate row ≡ some row
+unfolding candidate
+candidate-row row c = simp (eq-eqb (register row) 0 c)
+
+pub candidate-flip : (row : List Bool) → (Closes row → ⊥) → wrongAfter row < length row → candidate row ≡ some (flip (wrongPlace row) row)
+unfolding candidate
+candidate-flip row c h = simp (ne-eqb (register row) 0 c, lt-ltb (wrongAfter row) (length row) h)
+
+pub candidate-none : (row : List Bool) → (Closes row → ⊥) → length row ≤ wrongAfter row → candidate row ≡ none
+unfolding candidate
+candidate-none row c h = simp (ne-eqb (register row) 0 c, le-ltb (wrongAfter row) (length row) h)
+
+-- ---- a row as long that closes
+pub candidate-closes : (row a : List Bool) → candidate row ≡ some a → (length a ≡ length row) × Closes a
+unfolding candidate
+candidate-closes row a e = decided (eqb (register row) 0) (ltb (wrongAfter row) (length row)) refl refl e
+  where
+    at : (x : List Bool) → some x ≡ some a → (length x ≡ length row) × Closes x → (length a ≡ length row) × Closes a
+    at x e w = let same : x ≡ a = cc in rw same at w
+
+    decided : (b d : Bool) → eqb (register row) 0 ≡ b → ltb (wrongAfter row) (length row) ≡ d
+        → cond b (some row) (cond d (some (flip (wrongPlace row) row)) none) ≡ some a → (length a ≡ length row) × Closes a
+    decided true d p q e = at row e (refl, eqb-true (register row) 0 p)
+    decided false true p q e =
+        at (flip (wrongPlace row) row) e (length-flip (wrongPlace row) row, told-closes row (ltb-true (wrongAfter row) (length row) q))
+    decided false false p q e = absurd (Option·none-ne-some a e)
+
+pub candidate-found : (row a : List Bool) → length row ≤ longest → length a ≡ length row → Closes a → differences a row ≤ 1 → candidate row ≡ some a
+candidate-found row a s l c h = by (differences a row) refl h
+  where
+    by : (d : ℕ) → differences a row ≡ d → d ≤ 1 → candidate row ≡ some a
+    by zero e h = let same = differences-zero a row e in candidate-row row (ap register (sym same) ∙ c) ∙ ap some (sym same)
+    by (suc zero) e h =
+        let w = nearer a row 0 l e in
+        let same = differences-zero a (flip (w .place) row) (w .left) in
+        let closes = ap register (sym same) ∙ c in
+        let told = flip-told row (w .place) s (w .within) closes in
+        candidate-flip row (λ d. closes-alone row (w .place) (w .within) d closes) (told .0)
+        ∙ ap some (ap (λ (i : ℕ). flip i row) (sym (told .1)) ∙ sym same)
+    by (suc (suc d)) e h = absurd (omega arith)
+
+-- ---- what a test leaves of it
+pub passing-some : (test : List Bool → Bool) (o : Option (List Bool)) (a : List Bool) → passing test o ≡ some a → (o ≡ some a) × (test a ≡ true)
+unfolding passing
+passing-some test none a e = absurd (Option·none-ne-some a e)
+passing-some test (some x) a e = decided (test x) refl e
+  where
+    decided : (b : Bool) → test x ≡ b → cond b (some x) none ≡ some a → (some x ≡ some a) × (test a ≡ true)
+    decided true t e = let same : x ≡ a = cc in (e, rw same at t)
+    decided false t e = absurd (Option·none-ne-some a e)
+
+pub some-passing : (test : List Bool → Bool) (o : Option (List Bool)) (a : List Bool) → o ≡ some a → test a ≡ true → passing test o ≡ some a
+unfolding passing
+some-passing test o a e t = rw (e, t)

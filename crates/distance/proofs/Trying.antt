@@ -1,0 +1,59 @@
+-- What trying every place finds: only what passes the test, and that where one alone passes.
+-- Assumes nothing.
+use mathlib.Core.Path.{_≡_, refl, sym, ap, _∙_, subst}
+use mathlib.Core.Logic.{_⊎_, inl, inr, ⊎-elim}
+use mathlib.Core.Bool.{Bool, true, false, cond, true≢false}
+use mathlib.Core.List.{List}
+use mathlib.Core.Option.{Option, none, some, Option·none-ne-some}
+use Prim.Native.Nat.{ℕ, zero, suc, _+_, _<_, _≤_}
+use native.Mathlib.Nat.{eq-or-lt-of-le}
+use native.Mathlib.Omega.{arith}
+use lib.ListN.{length}
+use Rattle.bits.specs.Row.{differences, flip}
+use Rattle.bits.proofs.Differences.{differences-zero}
+use Rattle.bits.proofs.Flip.{nearer}
+use Rattle.distance.specs.Reading.{firstFlip, tryEach}
+
+either : (b : Bool) (x a : List Bool) (o : Option (List Bool)) → cond b (some x) o ≡ some a → ((b ≡ true) × (x ≡ a)) ⊎ (o ≡ some a)
+either true x a o e = inl (refl, cc)
+either false x a o e = inr e
+
+module _ (test : List Bool → Bool) (row a : List Bool) where
+  -- ---- what is found passes
+  flip-passes : (i left : ℕ) → firstFlip test row i left ≡ some a → test a ≡ true
+  unfolding firstFlip
+  flip-passes i zero e = absurd (Option·none-ne-some a e)
+  flip-passes i (suc left) e =
+      ⊎-elim (λ w. rw (w .1) at (w .0)) (λ w. flip-passes (i + 1) left w) (either (test (flip i row)) (flip i row) a (firstFlip test row (i + 1) left) e)
+
+  pub tried-passes : tryEach test row ≡ some a → test a ≡ true
+  unfolding tryEach
+  tried-passes e = ⊎-elim (λ w. rw (w .1) at (w .0)) (λ w. flip-passes 0 (length row) w) (either (test row) row a (firstFlip test row 0 (length row)) e)
+
+  -- ---- what alone passes, and differs from the row in at most one place, is found
+  module _ (passes : test a ≡ true) (alone : (b : List Bool) → test b ≡ true → b ≡ a) where
+    picked : (x : List Bool) (o : Option (List Bool)) (b : Bool) → test x ≡ b → (test x ≡ false → o ≡ some a) → cond b (some x) o ≡ some a
+    picked x o true e f = ap some (alone x e)
+    picked x o false e f = f e
+
+    flip-found : (i left j : ℕ) → i ≤ j → j < i + left → a ≡ flip j row → firstFlip test row i left ≡ some a
+    unfolding firstFlip
+    flip-found i zero j h l e = absurd (omega arith)
+    flip-found i (suc left) j h l e =
+        picked (flip i row) (firstFlip test row (i + 1) left) (test (flip i row)) refl
+        (λ f. ⊎-elim
+        (λ (s : i ≡ j). absurd (true≢false (sym passes ∙ ap test (e ∙ ap (λ (n : ℕ). flip n row) (sym s)) ∙ f)))
+        (λ (s : i < j). flip-found (i + 1) left j (omega arith) (omega arith) e)
+        (eq-or-lt-of-le h))
+
+    pub tried-found : length a ≡ length row → differences a row ≤ 1 → tryEach test row ≡ some a
+    unfolding tryEach
+    tried-found l h = by (differences a row) refl h
+      where
+        by : (d : ℕ) → differences a row ≡ d → d ≤ 1 → cond (test row) (some row) (firstFlip test row 0 (length row)) ≡ some a
+        by zero e h = let same = differences-zero a row e in rw (← same, passes)
+        by (suc zero) e h =
+            let w = nearer a row 0 l e in
+            picked row (firstFlip test row 0 (length row)) (test row) refl
+            (λ f. flip-found 0 (length row) (w .place) (omega arith) (omega (arith, w .within)) (differences-zero a (flip (w .place) row) (w .left)))
+        by (suc (suc d)) e h = absurd (omega arith)

@@ -1,0 +1,59 @@
+-- Reading a block: every place is tried in turn; and the same by one candidate, the one that the register tells of.
+use mathlib.Core.Bool.{Bool, cond, _&&_}
+use mathlib.Core.List.{List}
+use mathlib.Core.Option.{Option, none, some}
+use Prim.Native.Nat.{ℕ, zero, suc, _+_, _-_}
+use lib.Dec.{eqb, leb, ltb}
+use lib.ListN.{length}
+use Rattle.bits.specs.Row.{differences, flip}
+use Rattle.check32.specs.Check.{register}
+use Rattle.check32.specs.Residue.{bitsAfter}
+use Rattle.distance.specs.Coding.{Coding, image, received}
+use Rattle.distance.specs.Valid.{allZero, bitsOver, valid}
+
+-- the first that passes a test: of a row with the bit inverted at one of `left` places from i on
+unfoldable pub firstFlip : (List Bool → Bool) → List Bool → ℕ → ℕ → Option (List Bool)
+firstFlip test row i zero = none
+firstFlip test row i (suc left) = cond (test (flip i row)) (some (flip i row)) (firstFlip test row (i + 1) left)
+
+-- of a row as it is and then with each of its bits inverted
+unfoldable pub tryEach : (List Bool → Bool) → List Bool → Option (List Bool)
+tryEach test row = cond (test row) (some row) (firstFlip test row 0 (length row))
+
+-- the image of a block is within one place of what came
+abbrev pub isNear : Coding → List Bool → List Bool → Bool
+isNear c came a = leb (differences (image c a) came) 1
+
+-- the block may stand for what came
+unfoldable pub standsFor : Coding → List Bool → List Bool → Bool
+standsFor c came a = valid c a && isNear c came a
+
+-- the received bits if they stand for what came, else the first flip of them that does, else nothing
+unfoldable pub readBlock : Coding → List Bool → Option (List Bool)
+readBlock c came = tryEach (standsFor c came) (received c came)
+
+-- ---- one candidate
+-- how many bits come after the wrong one, and the place where it is
+abbrev pub wrongAfter : List Bool → ℕ
+wrongAfter row = bitsAfter (register row) (length row)
+
+abbrev pub wrongPlace : List Bool → ℕ
+wrongPlace row = length row - suc (wrongAfter row)
+
+-- the row if it closes, else the one flip of it that closes, if any
+unfoldable pub candidate : List Bool → Option (List Bool)
+candidate row =
+    cond (eqb (register row) 0) (some row)
+    (cond (ltb (wrongAfter row) (length row)) (some (flip (wrongPlace row) row)) none)
+
+-- what of a candidate is left by a test
+unfoldable pub passing : (List Bool → Bool) → Option (List Bool) → Option (List Bool)
+passing test none = none
+passing test (some a) = cond (test a) (some a) none
+
+-- the rest of the test: the check is right already
+unfoldable pub holdsUp : Coding → List Bool → List Bool → Bool
+holdsUp c came a = allZero (bitsOver c a) && isNear c came a
+
+unfoldable pub readCandidate : Coding → List Bool → Option (List Bool)
+readCandidate c came = passing (holdsUp c came) (candidate (received c came))
