@@ -1,6 +1,6 @@
 // Stepping through the messages of a datagram (document 01, "Messages in a datagram"; M.2092-1, Annex 4, 4.9).
 ghost use mathlib.Core.Path.{_≡_};
-ghost use Prim.Native.Nat.{_<_, _≤_};
+ghost use Prim.Native.Nat.{_≤_};
 ghost use lib.Dec.{ltb};
 ghost use lib.ListN.{length};
 ghost use Rattle.messages.specs.Fill.{isFill, onlyFill};

@@ -1,14 +1,9 @@
 -- What the scan says decides. Assumes nothing.
-use mathlib.Core.Path.{_≡_, sym, _∙_}
+use mathlib.Core.Path.{sym, _∙_}
 use borrow.Author.Needs.{needs}
 use Rattle.messages.proofs.Ways.{fill-only, fill-broken}
 use Rattle.messages.proofs.fill_at.Statement.{statement}
 use Rattle.messages.proofs.fill_at.Tie as tie
-use Rattle.messages.proofs.fill_at.Reads as reads
-use Rattle.messages.proofs.fill_at.Lts as lts
-use Rattle.messages.proofs.finished.Reads as finished-reads
-use Rattle.messages.proofs.only_fill.Reads as only-fill-reads
-use Rattle.messages.proofs.refused.Reads as refused-reads
 
 only-fill-requires : tie.Need-only-fill-requires
 only-fill-requires c κs = search needs

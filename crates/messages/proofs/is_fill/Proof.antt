@@ -2,8 +2,6 @@
 use borrow.Author.Tests.{eq-eqb, ne-eqb}
 use Rattle.messages.proofs.is_fill.Statement.{statement}
 use Rattle.messages.proofs.is_fill.Tie as tie
-use Rattle.messages.proofs.is_fill.Reads as reads
-use Rattle.messages.proofs.is_fill.Lts as lts
 
 returns : tie.Need-returns
 returns c = simp (eq-eqb _ _ (c .if1 .taken))

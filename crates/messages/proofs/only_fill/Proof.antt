@@ -1,3 +1,4 @@
+-- Byte by byte: what is left to test at i decides. Assumes nothing.
 use mathlib.Core.Path.{_≡_, refl, sym, _∙_}
 use Prim.Native.Nat.{_≤_, _-_}
 use lib.ListN.{length, drop}
@@ -7,9 +8,6 @@ use Rattle.lists.proofs.All.{all-more, all-done}
 use Rattle.messages.specs.Fill.{onlyFill}
 use Rattle.messages.proofs.only_fill.Statement.{statement}
 use Rattle.messages.proofs.only_fill.Tie as tie
-use Rattle.messages.proofs.only_fill.Reads as reads
-use Rattle.messages.proofs.only_fill.Lts as lts
-use Rattle.messages.proofs.is_fill.Reads as is-fill-reads
 
 abbrev Inv-loop : tie.InvT-loop
 Inv-loop bytes i₀ i-end i = (i ≤ i-end) × (i-end ≡ length bytes) × (onlyFill bytes ≡ onlyFill (drop i bytes))

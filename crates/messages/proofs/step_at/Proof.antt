@@ -1,16 +1,10 @@
 -- The end, fill, or a message. Assumes nothing.
-use mathlib.Core.Path.{_≡_, sym, _∙_}
+use mathlib.Core.Path.{sym, _∙_}
 use native.Mathlib.Omega.{arith}
 use borrow.Author.Needs.{needs}
 use Rattle.messages.proofs.Ways.{step-end, step-fill, step-begins}
 use Rattle.messages.proofs.step_at.Statement.{statement}
 use Rattle.messages.proofs.step_at.Tie as tie
-use Rattle.messages.proofs.step_at.Reads as reads
-use Rattle.messages.proofs.step_at.Lts as lts
-use Rattle.messages.proofs.fill_at.Reads as fill-at-reads
-use Rattle.messages.proofs.finished.Reads as finished-reads
-use Rattle.messages.proofs.is_fill.Reads as is-fill-reads
-use Rattle.messages.proofs.message_at.Reads as message-at-reads
 
 finished-requires : tie.Need-finished-requires
 finished-requires c κs = search needs

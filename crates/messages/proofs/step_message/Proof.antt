@@ -1,5 +1,5 @@
 -- Past the end, or a step on the part from the position on. Assumes nothing.
-use mathlib.Core.Path.{_≡_, sym, ap, _∙_}
+use mathlib.Core.Path.{sym, ap, _∙_}
 use native.Mathlib.Omega.{arith}
 use borrow.Author.Needs.{needs}
 use Rattle.lists.proofs.Part.{part-rest}
@@ -7,10 +7,6 @@ use Rattle.messages.specs.Step.{stepAt}
 use Rattle.messages.proofs.Ways.{step-past, step-within}
 use Rattle.messages.proofs.step_message.Statement.{statement}
 use Rattle.messages.proofs.step_message.Tie as tie
-use Rattle.messages.proofs.step_message.Reads as reads
-use Rattle.messages.proofs.step_message.Lts as lts
-use Rattle.messages.proofs.refused.Reads as refused-reads
-use Rattle.messages.proofs.step_at.Reads as step-at-reads
 
 refused-requires : tie.Need-refused-requires
 refused-requires c κs = search needs
