@@ -1,6 +1,6 @@
 -- A loop that scans a list and refuses at the first element that fails a test.
 -- Assumes nothing.
-use mathlib.Core.Path.{_≡_, refl}
+use mathlib.Core.Path.{_≡_, refl, _∙_}
 use mathlib.Core.Bool.{Bool, true, false, _&&_, true≢false, false≢true}
 use mathlib.Core.List.{List, [], _∷_}
 use Prim.Native.Nat.{ℕ, zero, suc, _+_, _<_, _≤_, zero-le, suc-le-suc}
@@ -14,6 +14,13 @@ use Rattle.lists.specs.All.{all}
 pub all-more : (p : ℕ → Bool) (s : List ℕ) (i : ℕ) → i < length s → all p (drop i s) ≡ (p (getD s i 0) && all p (drop (i + 1) s))
 unfolding all
 all-more p s i h = rw (drop-cons s i 0 h, add-one)
+
+-- where the element at i fails, the test of all fails; where it passes, what is left at i + 1 decides
+pub all-stops : (p : ℕ → Bool) (s : List ℕ) (i : ℕ) → i < length s → p (getD s i 0) ≡ false → all p (drop i s) ≡ false
+all-stops p s i h e = all-more p s i h ∙ rw e
+
+pub all-passes : (p : ℕ → Bool) (s : List ℕ) (i : ℕ) → i < length s → p (getD s i 0) ≡ true → all p (drop i s) ≡ all p (drop (i + 1) s)
+all-passes p s i h e = all-more p s i h ∙ rw e
 
 -- at the end nothing is left to test
 pub all-done : (p : ℕ → Bool) (s : List ℕ) (i : ℕ) → length s ≤ i → all p (drop i s) ≡ true
