@@ -23,3 +23,15 @@ noBit = 4
 -- no code word within seven
 abbrev pub noWord : ℕ
 noWord = 6
+
+-- position past the end
+abbrev pub pastEnd : ℕ
+pastEnd = 8
+
+-- fewer than 3 bytes left, length below 7, or message past the end
+abbrev pub brokenMessage : ℕ
+brokenMessage = 9
+
+-- fill holds another byte
+abbrev pub brokenFill : ℕ
+brokenFill = 10

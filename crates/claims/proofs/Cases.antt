@@ -6,9 +6,11 @@ use mathlib.Core.List.{List, map}
 use Prim.Native.Nat.{ℕ, _<_}
 use lib.Dec.{T, ltb, ltb→lt, lit<, lit≤}
 use Rattle.answers.specs.Numbers.{noWord}
+use Rattle.lists.specs.All.{all}
 use Rattle.lists.proofs.Line.{upto, line}
 use Rattle.bits.specs.Bits.{byte}
 use Rattle.bits.specs.Row.{highFirst, differences}
+use Rattle.messages.specs.Step.{fillAt, messageAt, stepAt, stepMessage}
 use Rattle.words.specs.Word.{generator, withRows, wordOf, wordBits}
 use Rattle.words.specs.Calls.{readWord, refused, found}
 use Rattle.words.proofs.Exact.{near-found, far-refused}
@@ -31,5 +33,5 @@ unfolding highFirst generator withRows wordOf differences
 nine-wrong = near-found (inverted 9 (wordBits 0) (wordBits 1)) refl 1 7 (record { known = lit< tt; count = refl; within = lit≤ tt })
 
 pub cases : Cases
-unfolding generator withRows wordOf
-cases = record { P1 = refl; P2 = refl; P3 = refl; P4 = seven-wrong; P5 = eight-wrong; P6 = nine-wrong }
+unfolding generator withRows wordOf all fillAt messageAt stepAt stepMessage
+cases = record { P1 = refl; P2 = refl; P3 = refl; P4 = seven-wrong; P5 = eight-wrong; P6 = nine-wrong; P11 = (refl, refl, refl); P12 = (refl, refl, refl) }

@@ -4,8 +4,9 @@ use mathlib.Core.Bool.{Bool, true, false, not}
 use mathlib.Core.List.{List, [], _∷_, _++_, map}
 use Prim.Native.Nat.{ℕ, zero, suc}
 use lib.ListN.{take, drop}
-use Rattle.answers.specs.Numbers.{noWord}
+use Rattle.answers.specs.Numbers.{noWord, pastEnd, brokenMessage}
 use Rattle.bits.specs.Bits.{byte}
+use Rattle.messages.specs.Step.{stepMessage, finished, message, refused as step-refused}
 use Rattle.words.specs.Word.{wordOf, wordBits}
 use Rattle.words.specs.Calls.{readWord, refused, found}
 
@@ -23,6 +24,10 @@ inverted (suc n) (true ∷ row) (false ∷ other) = false ∷ inverted n row oth
 inverted (suc n) (false ∷ row) (true ∷ other) = true ∷ inverted n row other
 inverted (suc n) (false ∷ row) (false ∷ other) = false ∷ inverted (suc n) row other
 
+-- a datagram of eight bytes whose message declares a length
+abbrev pub declaring : ℕ → List ℕ
+declaring n = 74 ∷ 0 ∷ n ∷ 0 ∷ 0 ∷ 0 ∷ 1 ∷ 81 ∷ []
+
 pub record Cases : Type 0 where
   -- the word of 0 is the scrambling word
   pub P1 : wordOf 0 ≡ 0b11000010111000101000111001001111
@@ -33,3 +38,7 @@ pub record Cases : Type 0 where
   pub P5 : readWord (map byte (firstInverted 8 (wordBits 5))) ≡ refused noWord
   -- the word of 0 with nine of the places inverted where it differs from the word of 1
   pub P6 : readWord (map byte (inverted 9 (wordBits 0) (wordBits 1))) ≡ found 1 7
+  -- a message of 7 and a byte of fill, from 0, from 7 and from 9
+  pub P11 : (stepMessage (declaring 7) 0 ≡ message 0 7) × (stepMessage (declaring 7) 7 ≡ finished) × (stepMessage (declaring 7) 9 ≡ step-refused pastEnd)
+  -- the same with length 8, and with 9 or 6
+  pub P12 : (stepMessage (declaring 8) 0 ≡ message 0 8) × (stepMessage (declaring 9) 0 ≡ step-refused brokenMessage) × (stepMessage (declaring 6) 0 ≡ step-refused brokenMessage)

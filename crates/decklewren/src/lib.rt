@@ -1,9 +1,11 @@
 // What C calls (include/decklewren.h): the public calls of the crates below, one thin wrapper each, with the same contract.
 use answers::Written;
+use messages::Step;
 use words::Word;
 ghost use mathlib.Core.Path.{_≡_};
 ghost use lib.ListN.{length};
 ghost use Rattle.answers.specs.Outcome.{Wrote};
+ghost use Rattle.messages.specs.Step.{stepMessage};
 ghost use Rattle.words.specs.Calls.{writeWord, readWord};
 
 #[no_mangle]
@@ -18,4 +20,11 @@ pub extern "C" fn decklewren_read_word(bits: &[u8]) -> Word
     ensures { λ r. ⌜ r ≡ readWord (now (bits .entry)) ⌝ }
 {
     words::read(bits)
+}
+
+#[no_mangle]
+pub extern "C" fn decklewren_step_message(datagram: &[u8], position: usize) -> Step
+    ensures { λ r. ⌜ r ≡ stepMessage (now (datagram .entry)) position ⌝ }
+{
+    messages::step_message(datagram, position)
 }

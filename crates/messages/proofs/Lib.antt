@@ -1,0 +1,5 @@
+pub mod Places
+pub mod Stepping
+pub mod Tiling
+pub mod Walk
+pub mod Ways

@@ -1,0 +1,59 @@
+-- Byte by byte: what is left to test at i decides. Assumes nothing.
+use mathlib.Core.Path.{_≡_, refl, sym, _∙_}
+use Prim.Native.Nat.{_≤_, _-_}
+use lib.ListN.{length, drop}
+use borrow.Author.Needs.{needs}
+use borrow.Author.Tests.{not-true, not-false}
+use Rattle.lists.proofs.All.{all-stops, all-passes, all-done}
+use Rattle.messages.specs.Fill.{isFill, onlyFill}
+use Rattle.messages.proofs.only_fill.Statement.{statement}
+use Rattle.messages.proofs.only_fill.Tie as tie
+
+abbrev Inv-loop : tie.InvT-loop
+Inv-loop bytes i₀ i-end i = (i ≤ i-end) × (i-end ≡ length bytes) × (onlyFill bytes ≡ onlyFill (drop i bytes))
+
+abbrev μ-loop : tie.MeasureT-loop
+μ-loop bytes i₀ i-end i = i-end - i
+
+loop-holds : tie.Need-loop-holds Inv-loop μ-loop
+loop-holds c = (search needs, search needs, refl)
+
+shared-slice-read-is-fill : tie.Need-shared-slice-read-is-fill Inv-loop μ-loop
+shared-slice-read-is-fill c = search needs
+
+is-fill-requires : tie.Need-is-fill-requires Inv-loop μ-loop
+is-fill-requires c κs = search needs
+
+returns : tie.Need-returns Inv-loop μ-loop
+returns c =
+    let at = c .before .before .before .before .loop in
+    sym (at .inv .2 ∙ all-stops isFill _ (at .i) (search needs) (sym (c .before .is-fill .ensures) ∙ not-true (c .before .is-fill .result) (c .if1 .taken)))
+
+add-i : tie.Need-add-i Inv-loop μ-loop
+add-i c = search needs
+
+loop-less : tie.Need-loop-less Inv-loop μ-loop
+loop-less c = search needs
+
+loop-again : tie.Need-loop-again Inv-loop μ-loop
+loop-again c =
+    let at = c .before .before .before .before .loop in
+    (search needs, search needs, at .inv .2 ∙ all-passes isFill _ (at .i) (search needs) (sym (c .before .is-fill .ensures) ∙ not-false (c .before .is-fill .result) (c .if1 .left)))
+
+returns-2 : tie.Need-returns-2 Inv-loop μ-loop
+returns-2 c = sym (c .before .loop .inv .2 ∙ all-done _ _ (c .before .loop .i) (search needs))
+
+pub only-fill-spec : {M : Type 1} → statement M
+only-fill-spec =
+    tie.close
+    (tie.spec
+    Inv-loop
+    μ-loop
+    loop-holds
+    shared-slice-read-is-fill
+    is-fill-requires
+    returns
+    add-i
+    loop-less
+    loop-again
+    returns-2)

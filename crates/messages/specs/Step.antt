@@ -1,0 +1,47 @@
+-- What a step through a datagram answers (document 01, "Messages in a datagram"; M.2092-1, Annex 4, 4.9). It is told of what is
+-- left of the datagram and of its offset, the number of bytes before it.
+use mathlib.Core.Bool.{cond}
+use mathlib.Core.List.{List, [], _∷_}
+use Prim.Native.Nat.{ℕ, _+_, _*_}
+use lib.Dec.{ltb}
+use lib.ListN.{length, getD, drop}
+use Rattle.answers.specs.Numbers.{done, pastEnd, brokenMessage, brokenFill}
+use Rattle.messages.specs.declared.Step.{Step}
+use Rattle.messages.specs.Fill.{isFill, onlyFill}
+
+-- a refusal: the number, and 0 for all else
+abbrev pub refused : ℕ → Step
+refused n = record { status = n; start = 0; length = 0 }
+
+-- no message follows: number 0 with start and length 0
+abbrev pub finished : Step
+finished = record { status = done; start = 0; length = 0 }
+
+-- a message: where it starts, and its length
+abbrev pub message : ℕ → ℕ → Step
+message start n = record { status = done; start = start; length = n }
+
+-- the total length that a message declares: the two bytes after its type, high byte first
+abbrev pub declared : List ℕ → ℕ
+declared left = getD left 1 0 * 256 + getD left 2 0
+
+-- where fill begins, all must be fill
+unfoldable pub fillAt : List ℕ → Step
+fillAt left = cond (onlyFill left) finished (refused brokenFill)
+
+-- where a message begins: three bytes for its type and length, a length of at least 7, and its end inside the datagram
+unfoldable pub messageAt : ℕ → List ℕ → Step
+messageAt offset left =
+    cond (ltb (length left) 3) (refused brokenMessage)
+    (cond (ltb (declared left) 7) (refused brokenMessage)
+    (cond (ltb (length left) (declared left)) (refused brokenMessage)
+    (message offset (declared left))))
+
+-- a step on what is left
+unfoldable pub stepAt : ℕ → List ℕ → Step
+stepAt offset [] = finished
+stepAt offset (b ∷ rest) = cond (isFill b) (fillAt (b ∷ rest)) (messageAt offset (b ∷ rest))
+
+-- a step from a position of a datagram, in the order 8, then 9 or 10
+unfoldable pub stepMessage : List ℕ → ℕ → Step
+stepMessage datagram position = cond (ltb (length datagram) position) (refused pastEnd) (stepAt position (drop position datagram))
