@@ -3,7 +3,7 @@ use mathlib.Core.Bool.{Bool, cond}
 use mathlib.Core.List.{List, [], _∷_}
 use Prim.Native.Nat.{ℕ, suc}
 use lib.Dec.{eqb, ltb}
-use lib.ListN.{length, getD}
+use lib.ListN.{length, getD, replicate}
 use Rattle.links.specs.declared.Row.{Row}
 
 abbrev pub row : ℕ → ℕ → ℕ → ℕ → List ℕ → ℕ → ℕ → Row
@@ -39,7 +39,7 @@ rows =
 
 -- what stands at no link's place
 abbrev pub noRow : Row
-noRow = row 0 0 0 0 [] 0 0
+noRow = row 0 0 0 0 (replicate 8 0) 0 0
 
 -- the place of a link's row in a table, or the number of rows where it has none
 unfoldable pub placeIn : List Row → ℕ → ℕ

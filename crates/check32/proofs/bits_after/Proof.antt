@@ -10,9 +10,6 @@ use Rattle.check32.specs.Residue.{residue, firstResidue, bitsAfter}
 use Rattle.check32.proofs.Residue.{residue-start, residue-next, residue-here, residue-later, residue-none}
 use Rattle.check32.proofs.bits_after.Statement.{statement}
 use Rattle.check32.proofs.bits_after.Tie as tie
-use Rattle.check32.proofs.bits_after.Reads as reads
-use Rattle.check32.proofs.bits_after.Lts as lts
-use Rattle.check32.proofs.step.Reads as step-reads
 
 abbrev Inv-loop : tie.InvT-loop
 Inv-loop register k r₀ n₀ r n = (n ≤ k) × (r ≡ residue n) × (firstResidue register n (k - n) ≡ bitsAfter register k)

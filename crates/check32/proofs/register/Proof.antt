@@ -10,9 +10,6 @@ use Rattle.check32.specs.Check.{registerFrom, register}
 use Rattle.check32.proofs.Word.{register-more, register-done}
 use Rattle.check32.proofs.register.Statement.{statement}
 use Rattle.check32.proofs.register.Tie as tie
-use Rattle.check32.proofs.register.Reads as reads
-use Rattle.check32.proofs.register.Lts as lts
-use Rattle.check32.proofs.step.Reads as step-reads
 
 abbrev Inv-loop : tie.InvT-loop
 Inv-loop bits r₀ i₀ i-end r i = (i ≤ i-end) × (i-end ≡ length bits) × (registerFrom r (map isOne (drop i bits)) ≡ register (map isOne bits))

@@ -1,0 +1,48 @@
+-- Each name has its number of clocks, and any other none. Assumes nothing.
+use mathlib.Core.Path.{sym}
+use borrow.Author.Tests.{ne-eqb}
+use Rattle.links.specs.Patterns.{patterns, clocksIn}
+use Rattle.links.proofs.flags.clocks.Statement.{statement}
+use Rattle.links.proofs.flags.clocks.Tie as tie
+
+returns : tie.Need-returns
+unfolding patterns clocksIn
+returns c = rw (c .match .keys1)
+
+returns-2 : tie.Need-returns-2
+unfolding patterns clocksIn
+returns-2 c = rw (c .match .keys2)
+
+returns-3 : tie.Need-returns-3
+unfolding patterns clocksIn
+returns-3 c = rw (c .match .keys3)
+
+returns-4 : tie.Need-returns-4
+unfolding patterns clocksIn
+returns-4 c = rw (c .match .keys4)
+
+returns-5 : tie.Need-returns-5
+unfolding patterns clocksIn
+returns-5 c = rw (c .match .keys5)
+
+returns-6 : tie.Need-returns-6
+unfolding patterns clocksIn
+returns-6 c = rw (c .match .keys6)
+
+returns-7 : tie.Need-returns-7
+unfolding patterns clocksIn
+returns-7 c =
+    let name = c .before .args .name in
+    rw (
+      ne-eqb 0x2 name (λ e. (c .match .rest .0 .0 .0 .0 .0 .1) (sym e)),
+      ne-eqb 0x4 name (λ e. (c .match .rest .0 .0 .0 .0 .1) (sym e)),
+      ne-eqb 0x6 name (λ e. (c .match .rest .0 .0 .0 .1) (sym e)),
+      ne-eqb 0x7a name (λ e. (c .match .rest .0 .0 .1) (sym e)),
+      ne-eqb 0x7b name (λ e. (c .match .rest .0 .1) (sym e)),
+      ne-eqb 0x8 name (λ e. (c .match .rest .1) (sym e)),
+    )
+
+pub clocks-spec : {M : Type 1} → statement M
+clocks-spec =
+    tie.close
+    (tie.spec returns returns-2 returns-3 returns-4 returns-5 returns-6 returns-7)

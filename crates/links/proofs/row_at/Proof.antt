@@ -1,0 +1,57 @@
+-- The two tables hold the numbers and the primes of the table's rows. Assumes nothing.
+use native.Mathlib.Omega.{arith}
+use borrow.Author.Needs.{needs}
+use Rattle.links.specs.Rows.{rows}
+use Rattle.links.proofs.Places.{row-is}
+use Rattle.links.proofs.row_at.Statement.{statement}
+use Rattle.links.proofs.row_at.Tie as tie
+
+mul-row : tie.Need-mul-row
+mul-row c = search needs
+
+array-copy-out-row : tie.Need-array-copy-out-row
+array-copy-out-row c = search needs
+
+array-read-t32 : tie.Need-array-read-t32
+array-read-t32 c = search needs
+
+array-read-t35 : tie.Need-array-read-t35
+array-read-t35 c = search needs
+
+array-read-t38 : tie.Need-array-read-t38
+array-read-t38 c = search needs
+
+array-read-t41 : tie.Need-array-read-t41
+array-read-t41 c = search needs
+
+mul-t26 : tie.Need-mul-t26
+mul-t26 c = search needs
+
+array-copy-out-t67 : tie.Need-array-copy-out-t67
+array-copy-out-t67 c = search needs
+
+array-read-t70 : tie.Need-array-read-t70
+array-read-t70 c = search needs
+
+array-read-t73 : tie.Need-array-read-t73
+array-read-t73 c = search needs
+
+returns : tie.Need-returns
+unfolding rows
+returns c = row-is (c .before .before .args .place) (search needs)
+
+pub row-at-spec : {M : Type 1} → statement M
+row-at-spec =
+    tie.close
+    (tie.spec
+    mul-row
+    array-copy-out-row
+    array-read-t32
+    array-read-t35
+    array-read-t38
+    array-read-t41
+    mul-t26
+    array-copy-out-t67
+    array-read-t70
+    array-read-t73
+    returns)
