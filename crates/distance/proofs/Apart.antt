@@ -13,7 +13,7 @@ use Rattle.bits.proofs.Differences.{differences-zero}
 use Rattle.bits.proofs.Flip.{length-flip, flip-flip, nearer}
 use Rattle.bits.proofs.Xor.{⊕-self, ⊕-equal}
 use Rattle.check32.specs.Check.{register, Closes}
-use Rattle.check32.specs.Residue.{residue, bitsAfter}
+use Rattle.check32.specs.Residue.{residue}
 use Rattle.check32.proofs.Linear.{registerFrom-flip, residue-not-zero}
 use Rattle.check32.proofs.Residue.{bitsAfter-found, bitsAfter-first}
 use Rattle.distance.specs.Coding.{longest}

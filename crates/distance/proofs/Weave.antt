@@ -2,13 +2,13 @@
 -- Assumes nothing.
 use mathlib.Core.Path.{_≡_, refl, sym, ap, _∙_}
 use mathlib.Core.Bool.{Bool, false}
-use mathlib.Core.List.{List, [], _∷_, _++_, map}
+use mathlib.Core.List.{List, [], _∷_, map}
 use Prim.Native.Nat.{ℕ, suc, _≤_, zero-le}
 use native.Mathlib.Nat.{le-trans}
 use native.Mathlib.Omega.{arith}
 use lib.ListN.{length, drop, replicate, length-drop, length-map, length-replicate}
 use lib.Seq.{drop-append-seam}
-use Rattle.bits.specs.Row.{differ, differences}
+use Rattle.bits.specs.Row.{differences}
 use Rattle.bits.specs.Xor.{xorRows}
 use Rattle.bits.proofs.Differences.{differences-drop}
 use Rattle.bits.proofs.XorRows.{length-xorRows, xorRows-twice, differences-xorRows}

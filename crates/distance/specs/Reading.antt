@@ -52,8 +52,8 @@ passing test none = none
 passing test (some a) = cond (test a) (some a) none
 
 -- the rest of the test: the check is right already
-unfoldable pub holdsUp : Coding → List Bool → List Bool → Bool
-holdsUp c came a = allZero (bitsOver c a) && isNear c came a
+unfoldable pub accepted : Coding → List Bool → List Bool → Bool
+accepted c came a = allZero (bitsOver c a) && isNear c came a
 
 unfoldable pub readCandidate : Coding → List Bool → Option (List Bool)
-readCandidate c came = passing (holdsUp c came) (candidate (received c came))
+readCandidate c came = passing (accepted c came) (candidate (received c came))
