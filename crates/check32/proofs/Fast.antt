@@ -37,13 +37,7 @@ shared-is : (n : ℕ) → bitAnd n x32 ≡ shared n
 unfolding shared
 shared-is n =
     let above : ℕ → ℕ = λ i. x32 / 2 ^ i in
-    let from4 = n / 16 in
-    let from7 = from4 / 8 in
-    let from10 = from7 / 8 in
-    let from16 = from10 / 64 in
-    let from22 = from16 / 64 in
-    run 1 3 (above 4) n _ (run 1 2 (above 7) from4 _ (run 1 2 (above 10) from7 _ (run 3 3 (above 16) from10 _
-    (run 5 1 (above 22) from16 _ (run 2 2 (above 26) from22 _ (and-mask (from22 / 16) 1))))))
+    run 1 3 (above 4) n _ (run 1 2 (above 7) _ _ (run 1 2 (above 10) _ _ (run 3 3 (above 16) _ _ (run 5 1 (above 22) _ _ (run 2 2 (above 26) _ _ (and-mask _ 1))))))
 
 -- the generator added to n where the bit t is set
 reduced : ℕ → ℕ → ℕ

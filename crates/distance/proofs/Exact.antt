@@ -16,7 +16,7 @@ use Rattle.bits.proofs.Bits.{both-true}
 use Rattle.bits.proofs.Differences.{differences-comm, differences-triangle}
 use Rattle.distance.specs.Coding.{Coding, Sound, image, received}
 use Rattle.distance.specs.Valid.{valid, Near}
-use Rattle.distance.specs.Reading.{isNear, standsFor, readBlock}
+use Rattle.distance.specs.Reading.{isNear, standsFor, readByTrying}
 use Rattle.distance.proofs.Apart.{three-apart}
 use Rattle.distance.proofs.Trying.{tried-passes, tried-found}
 use Rattle.distance.proofs.Valid.{valid-length, valid-closes}
@@ -72,8 +72,8 @@ module _ (c : Coding) (sound : Sound c) where
         (l ∙ sym (length-received c sound came size), le-trans (differences-came c sound a came l) (n .within))
 
     -- a block is answered exactly if it is valid with its image within one place of what came
-    pub exact : (a : List Bool) → (readBlock c came ≡ some a) ↔ Near c came a
-    unfolding readBlock
+    pub exact : (a : List Bool) → (readByTrying c came ≡ some a) ↔ Near c came a
+    unfolding readByTrying
     exact a = (
       λ e. stands-near came a (tried-passes (standsFor c came) (received c came) a e),
       λ n. let w = near-received a n in
@@ -82,9 +82,9 @@ module _ (c : Coding) (sound : Sound c) where
     )
 
     -- nothing is answered exactly if there is no such block
-    pub refused : (readBlock c came ≡ none) ↔ ((a : List Bool) → Near c came a → ⊥)
-    refused = (λ e a n. Option·none-ne-some a (sym e ∙ exact a .1 n), λ far. decided far (readBlock c came) refl)
+    pub refused : (readByTrying c came ≡ none) ↔ ((a : List Bool) → Near c came a → ⊥)
+    refused = (λ e a n. Option·none-ne-some a (sym e ∙ exact a .1 n), λ far. decided far (readByTrying c came) refl)
       where
-        decided : ((a : List Bool) → Near c came a → ⊥) → (o : Option (List Bool)) → readBlock c came ≡ o → readBlock c came ≡ none
+        decided : ((a : List Bool) → Near c came a → ⊥) → (o : Option (List Bool)) → readByTrying c came ≡ o → readByTrying c came ≡ none
         decided far none e = e
         decided far (some a) e = absurd (far a (exact a .0 e))
