@@ -3,11 +3,11 @@
 use mathlib.Core.Path.{_≡_, refl, ap}
 use mathlib.Core.Bool.{Bool, true, false, not, Bool·not-not}
 use mathlib.Core.List.{List, [], _∷_}
-use Prim.Native.Nat.{ℕ, zero, suc, _+_, _<_, _≤_}
+use Prim.Native.Nat.{ℕ, zero, suc, _<_, _≤_}
 use native.Mathlib.Omega.{arith}
 use lib.ListN.{length}
 use Rattle.bits.specs.Row.{differ, differences, flip}
-use Rattle.bits.proofs.Differences.{differences-self}
+use Rattle.bits.proofs.Differences.{differences-self, differences-zero}
 
 pub length-flip : (i : ℕ) (row : List Bool) → length (flip i row) ≡ length row
 unfolding flip
@@ -59,3 +59,16 @@ nearer (true ∷ xs) (true ∷ ys) n l e = later true true xs ys n refl (nearer 
 nearer (true ∷ xs) (false ∷ ys) n l e = here true false xs ys n refl (omega arith)
 nearer (false ∷ xs) (true ∷ ys) n l e = here false true xs ys n refl (omega arith)
 nearer (false ∷ xs) (false ∷ ys) n l e = later false false xs ys n refl (nearer xs ys n (omega arith) (omega arith))
+
+-- rows that differ in at most one place: the same, or one a flip of the other
+pub data OneOff (xs ys : List Bool) : Type 0 where
+  same : xs ≡ ys → OneOff xs ys
+  flipped : (i : ℕ) → i < length ys → xs ≡ flip i ys → OneOff xs ys
+
+pub one-off : (xs ys : List Bool) → length xs ≡ length ys → differences xs ys ≤ 1 → OneOff xs ys
+one-off xs ys l h = by (differences xs ys) refl h
+  where
+    by : (d : ℕ) → differences xs ys ≡ d → d ≤ 1 → OneOff xs ys
+    by zero e h = same (differences-zero xs ys e)
+    by (suc zero) e h = let w = nearer xs ys 0 l e in flipped (w .place) (w .within) (differences-zero xs (flip (w .place) ys) (w .left))
+    by (suc (suc d)) e h = absurd (omega arith)

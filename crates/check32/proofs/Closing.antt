@@ -2,20 +2,19 @@
 -- Assumes nothing.
 use mathlib.Core.Path.{_≡_, refl, sym, ap, ap₂, _∙_, subst}
 use mathlib.Core.Bool.{Bool}
-use mathlib.Core.List.{List, [], _∷_, _++_}
+use mathlib.Core.List.{List, _++_}
 use Prim.Native.Nat.{ℕ, zero, suc, _+_, _*_, _/_, _%_, _^_, _<_}
-use native.Mathlib.Nat.{mod-lt, mod-eq-of-lt, mul-mod-left, mul-assoc, mul-one, add-zero, zero-mul, pow-suc, suc-add}
+use native.Mathlib.Nat.{mod-lt, mod-eq-of-lt, mul-mod-left, mul-assoc, mul-one, add-zero, zero-mul, pow-suc}
 use native.Mathlib.Omega.{arith}
 use lib.Arith.{mod-mul}
 use lib.Bits.{bitXor, xor-self, xor-zero-r}
-use lib.Dec.{lit<}
 use lib.Pow.{pow-pos, pow-add, shl-lt, shl-shr, shr-shr, field, mod-mod-pow}
 use Rattle.bits.specs.Bits.{isOne}
 use Rattle.bits.specs.Row.{highFirst}
 use Rattle.bits.proofs.Bits.{byte-isOne}
 use Rattle.check32.specs.Check.{x32, step, registerFrom, register, checkBits, Closes}
 use Rattle.check32.proofs.Linear.{registerFrom-append}
-use Rattle.check32.proofs.Word.{step-word, registerFrom-lt}
+use Rattle.check32.proofs.Word.{step-word, register-lt}
 
 -- its own top bit only moves the register up by one place
 own-bit : (r : ℕ) → r < 2 ^ 32 → step r (isOne (r / 2 ^ 31)) ≡ r * 2 % 2 ^ 32
@@ -63,6 +62,5 @@ emptied (suc n) m w e =
 pub closed : (row : List Bool) → Closes (row ++ checkBits row)
 closed row =
     let r = register row in
-    let h : r < 2 ^ 32 = registerFrom-lt 0xFFFFFFFF row (lit< tt) in
     registerFrom-append 0xFFFFFFFF row (highFirst 32 r)
-    ∙ ap (λ (x : ℕ). registerFrom x (highFirst 32 r)) (sym (mul-one (r % 2 ^ 32) ∙ mod-eq-of-lt h)) ∙ emptied 32 0 r refl
+    ∙ ap (λ (x : ℕ). registerFrom x (highFirst 32 r)) (sym (mul-one (r % 2 ^ 32) ∙ mod-eq-of-lt (register-lt row))) ∙ emptied 32 0 r refl

@@ -1,5 +1,4 @@
--- The register by native arithmetic alone, so that antt computes it fast: an exclusive or is the sum less twice the digits that both have,
--- and the generator's digits stand in seven runs.
+-- The register by native arithmetic alone, so that antt computes it fast: an exclusive or is the sum less twice the digits that both have.
 -- Assumes nothing.
 use mathlib.Core.Path.{_≡_, refl, sym, ap, ap₂, _∙_}
 use mathlib.Core.Bool.{Bool, true, false}
@@ -7,59 +6,46 @@ use mathlib.Core.List.{List, [], _∷_}
 use Prim.Native.Nat.{ℕ, zero, suc, _+_, _-_, _*_, _/_, _%_, _^_, _<_}
 use native.Mathlib.Nat.{mod-lt, lt-of-lt-of-le}
 use native.Mathlib.Omega.{arith}
-use lib.Bits.{bitXor, bitAnd, xor-zero-r, xor-add-and, and-block, and-mask, and-zero-r}
+use lib.Bits.{bitXor, bitAnd, xor-zero-r, xor-add-and, and-block, and-mask}
 use lib.Dec.{lit<}
 use lib.Pow.{pow-pos, pow-mono, split, mod-mod-pow, ones-lt}
 use Rattle.bits.specs.Bits.{byte}
 use Rattle.check32.specs.Check.{x32, step, registerFrom, register}
 use Rattle.check32.proofs.Word.{step-word, step-lt}
 
--- ---- a number by its runs of digits, the lowest first: ones, and zeros above them
-record Run : Type 0 where
-  ones : ℕ
-  zeros : ℕ
+-- ---- the digits that a number shares with the generator below x^32: 2 1 0, 5 4, 8 7, 12 11 10, 16, 23 22, 26
+shared : ℕ → ℕ
+shared n =
+    let from4 = n / 16 in
+    let from7 = from4 / 8 in
+    let from10 = from7 / 8 in
+    let from16 = from10 / 64 in
+    let from22 = from16 / 64 in
+    let from26 = from22 / 16 in
+    (((((from26 % 2 * 16 + from22 % 4) * 64 + from16 % 2) * 64 + from10 % 8) * 8 + from7 % 4) * 8 + from4 % 4) * 16 + n % 8
 
-inRuns : List Run → ℕ
-inRuns [] = 0
-inRuns (r ∷ rs) = inRuns rs * 2 ^ (r .zeros + r .ones) + (2 ^ r .ones - 1)
+-- a run of ones with zeros above it, and then a
+run : (zeros ones a n m : ℕ) → bitAnd (n / 2 ^ (zeros + ones)) a ≡ m
+    → bitAnd n (a * 2 ^ (zeros + ones) + (2 ^ ones - 1)) ≡ m * 2 ^ (zeros + ones) + n % 2 ^ ones
+run zeros ones a n m e =
+    let wide = zeros + ones in
+    ap (λ (x : ℕ). bitAnd x (a * 2 ^ wide + (2 ^ ones - 1))) (sym (split n wide))
+    ∙ and-block wide (n / 2 ^ wide) a (n % 2 ^ wide) (2 ^ ones - 1) (mod-lt n (pow-pos wide)) (lt-of-lt-of-le (ones-lt ones) (pow-mono (omega arith)))
+    ∙ ap₂ (λ (x y : ℕ). x * 2 ^ wide + y) e (and-mask (n % 2 ^ wide) ones ∙ mod-mod-pow n zeros ones)
 
--- the digits that n shares with it
-shared : List Run → ℕ → ℕ
-shared [] n = 0
-shared (r ∷ rs) n = shared rs (n / 2 ^ (r .zeros + r .ones)) * 2 ^ (r .zeros + r .ones) + n % 2 ^ r .ones
-
-one-run : (z o a n : ℕ) → bitAnd n (a * 2 ^ (z + o) + (2 ^ o - 1)) ≡ bitAnd (n / 2 ^ (z + o)) a * 2 ^ (z + o) + n % 2 ^ o
-one-run z o a n =
-    ap (λ (m : ℕ). bitAnd m (a * 2 ^ (z + o) + (2 ^ o - 1))) (sym (split n (z + o)))
-    ∙ and-block (z + o) (n / 2 ^ (z + o)) a (n % 2 ^ (z + o)) (2 ^ o - 1) (mod-lt n (pow-pos (z + o))) (lt-of-lt-of-le (ones-lt o) (pow-mono (omega arith)))
-    ∙ ap (λ (m : ℕ). bitAnd (n / 2 ^ (z + o)) a * 2 ^ (z + o) + m) (and-mask (n % 2 ^ (z + o)) o ∙ mod-mod-pow n z o)
-
-shared-is : (rs : List Run) (n : ℕ) → bitAnd n (inRuns rs) ≡ shared rs n
-unfolding inRuns shared
-shared-is [] n = and-zero-r n
-shared-is (r ∷ rs) n =
-    one-run (r .zeros) (r .ones) (inRuns rs) n
-    ∙ ap (λ (m : ℕ). m * 2 ^ (r .zeros + r .ones) + n % 2 ^ r .ones) (shared-is rs (n / 2 ^ (r .zeros + r .ones)))
-
--- ---- the generator below x^32
-run : ℕ → ℕ → Run
-run ones zeros = record { ones = ones; zeros = zeros }
-
-runs : List Run
-unfolding run
-runs = run 3 1 ∷ run 2 1 ∷ run 2 1 ∷ run 3 3 ∷ run 1 5 ∷ run 2 2 ∷ run 1 0 ∷ []
-
-runs-are : inRuns runs ≡ x32
-unfolding inRuns runs run
-runs-are = refl
+shared-is : (n : ℕ) → bitAnd n x32 ≡ shared n
+unfolding shared
+shared-is n =
+    let above : ℕ → ℕ = λ i. x32 / 2 ^ i in
+    run 1 3 (above 4) n _ (run 1 2 (above 7) _ _ (run 1 2 (above 10) _ _ (run 3 3 (above 16) _ _ (run 5 1 (above 22) _ _ (run 2 2 (above 26) _ _ (and-mask _ 1))))))
 
 -- the generator added to n where the bit t is set
 reduced : ℕ → ℕ → ℕ
 reduced zero n = n
-reduced (suc t) n = n + x32 - shared runs n * 2
+reduced (suc t) n = n + x32 - shared n * 2
 
-xor-less : (n : ℕ) → bitXor n x32 ≡ n + x32 - shared runs n * 2
-xor-less n = omega (arith, xor-add-and n x32, ap (bitAnd n) (sym runs-are) ∙ shared-is runs n)
+xor-less : (n : ℕ) → bitXor n x32 ≡ n + x32 - shared n * 2
+xor-less n = omega (arith, xor-add-and n x32, shared-is n)
 
 reduced-is : (t n : ℕ) → t < 2 → reduced t n ≡ bitXor n (t * x32)
 unfolding reduced
@@ -76,7 +62,7 @@ digit-sum (suc (suc x)) b h = absurd (omega arith)
 
 -- ---- the register
 unfoldable pub fastStep : ℕ → Bool → ℕ
-unfolding inRuns shared runs run reduced
+unfolding shared reduced
 fastStep r b = reduced ((r / 2 ^ 31 + byte b) % 2) (r * 2 % 2 ^ 32)
 
 pub fastStep-is : (r : ℕ) (b : Bool) → r < 2 ^ 32 → fastStep r b ≡ step r b

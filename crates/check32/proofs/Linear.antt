@@ -4,7 +4,7 @@ use mathlib.Core.Path.{_≡_, refl, sym, ap, ap₂, _∙_}
 use mathlib.Core.Bool.{Bool, true, false, not, xor}
 use mathlib.Core.List.{List, [], _∷_, _++_}
 use Prim.Native.Nat.{ℕ, zero, suc, _+_, _-_, _*_, _<_}
-use native.Mathlib.Nat.{add-zero, zero-add, suc-add, add-suc}
+use native.Mathlib.Nat.{add-zero, suc-add, add-suc}
 use native.Mathlib.Omega.{arith}
 use lib.ListN.{length}
 use Rattle.bits.specs.Bits.{byte}
@@ -13,7 +13,7 @@ use Rattle.bits.specs.Xor.{_⊕_, xorRows}
 use Rattle.bits.proofs.Xor.{⊕-assoc, ⊕-comm, ⊕-self, ⊕-zero, zero-⊕, ⊕-middle}
 use Rattle.check32.specs.Check.{x32, timesX, step, registerFrom}
 use Rattle.check32.specs.Residue.{residue}
-use Rattle.check32.proofs.TimesX.{timesX-⊕, timesX-zero}
+use Rattle.check32.proofs.TimesX.{timesX-⊕}
 
 pub registerFrom-append : (r : ℕ) (a b : List Bool) → registerFrom r (a ++ b) ≡ registerFrom (registerFrom r a) b
 unfolding registerFrom
@@ -64,9 +64,3 @@ registerFrom-flip r zero (b ∷ row) h =
 registerFrom-flip r (suc i) (b ∷ row) h =
     let after : suc (length row) - suc (suc i) ≡ length row - suc i = omega arith in
     rw after (registerFrom-flip (step r b) i row (omega arith))
-
--- no residue is 0
-pub residue-not-zero : (n : ℕ) → residue n ≡ 0 → ⊥
-unfolding residue
-residue-not-zero zero e = omega arith
-residue-not-zero (suc n) e = residue-not-zero n (timesX-zero (residue n) e)

@@ -1,4 +1,4 @@
--- The search for a register among the residues: step by step, and what it finds.
+-- The residues, and the search for a register among them: step by step, and what it finds.
 -- Assumes nothing.
 use mathlib.Core.Path.{_≡_, refl, ap, _∙_}
 use mathlib.Core.Logic.{⊎-elim}
@@ -10,18 +10,24 @@ use native.Mathlib.Omega.{arith}
 use lib.Dec.{eqb, lit<}
 use borrow.Author.Tests.{eqb-true, eqb-false, eq-eqb, ne-eqb}
 use Rattle.bits.proofs.Xor.{zero-⊕}
-use Rattle.check32.specs.Check.{timesX, step}
+use Rattle.check32.specs.Check.{x32, timesX, step}
 use Rattle.check32.specs.Residue.{residue, firstResidue, bitsAfter}
+use Rattle.check32.proofs.TimesX.{timesX-zero}
 use Rattle.check32.proofs.Word.{step-lt}
 
 -- ---- the residue, bit by bit
-pub residue-start : residue 0 ≡ 0x04C11DB7
+pub residue-start : residue 0 ≡ x32
 unfolding residue
 residue-start = refl
 
 pub residue-next : (n : ℕ) → step (residue n) false ≡ residue (n + 1)
 unfolding step residue
 residue-next n = rw add-one (zero-⊕ (timesX (residue n)))
+
+pub residue-not-zero : (n : ℕ) → residue n ≡ 0 → ⊥
+unfolding residue
+residue-not-zero zero e = omega arith
+residue-not-zero (suc n) e = residue-not-zero n (timesX-zero (residue n) e)
 
 pub residue-lt : (n : ℕ) → residue n < 2 ^ 32
 residue-lt zero = rw residue-start (lit< tt)

@@ -1,16 +1,12 @@
 -- To multiply by x is linear and loses nothing.
 -- Assumes nothing.
-use mathlib.Core.Path.{_≡_, refl, sym, ap, ap₂, _∙_}
+use mathlib.Core.Path.{_≡_, ap, ap₂, _∙_}
 use Prim.Native.Nat.{ℕ, zero, suc, _*_, _/_, _%_, _^_, _<_}
 use native.Mathlib.Nat.{mod-lt, zero-lt-suc}
 use native.Mathlib.Omega.{arith}
 use Rattle.bits.specs.Xor.{_⊕_}
 use Rattle.bits.proofs.Xor.{⊕-self, ⊕-middle, ⊕-equal, ⊕-double, ⊕-digit}
 use Rattle.check32.specs.Check.{generator, timesX}
-
-pub timesX-is : (r : ℕ) → timesX r ≡ (r / 2 ^ 31 % 2 * generator) ⊕ (r * 2)
-unfolding timesX
-timesX-is r = refl
 
 pub timesX-⊕ : (r s : ℕ) → timesX (r ⊕ s) ≡ timesX r ⊕ timesX s
 unfolding timesX

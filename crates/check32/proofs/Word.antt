@@ -1,20 +1,21 @@
 -- The register on 32 bits, as code computes it.
 -- Assumes nothing.
-use mathlib.Core.Path.{_≡_, refl, sym, ap, ap₂, _∙_}
-use mathlib.Core.Bool.{Bool, true, false}
+use mathlib.Core.Path.{_≡_, ap, ap₂, _∙_}
+use mathlib.Core.Bool.{Bool}
 use mathlib.Core.List.{List, [], _∷_, map}
 use Prim.Native.Nat.{ℕ, _+_, _*_, _/_, _%_, _^_, _<_, _≤_}
 use native.Mathlib.Nat.{zero-add}
 use native.Mathlib.Numerals.{add-one}
 use native.Mathlib.Omega.{arith}
 use lib.Bits.{bitXor, xor-block, xor-self, xor-lt}
+use lib.Dec.{lit<}
 use lib.ListN.{length, getD, drop, drop-of-length-le}
 use lib.Seq.{drop-cons}
 use Rattle.bits.specs.Bits.{isOne, byte}
 use Rattle.bits.specs.Xor.{_⊕_}
 use Rattle.bits.proofs.Bits.{byte-lt}
 use Rattle.bits.proofs.Xor.{⊕-is, ⊕-comm, ⊕-left-comm, ⊕-lt, ⊕-times}
-use Rattle.check32.specs.Check.{generator, x32, timesX, step, registerFrom}
+use Rattle.check32.specs.Check.{generator, x32, timesX, step, registerFrom, register}
 
 -- equal digits from 2^32 on fall away
 above : (t a b : ℕ) → a < 2 ^ 32 → b < 2 ^ 32 → (t * 2 ^ 32 + a) ⊕ (t * 2 ^ 32 + b) ≡ a ⊕ b
@@ -55,6 +56,9 @@ pub registerFrom-lt : (r : ℕ) (row : List Bool) → r < 2 ^ 32 → registerFro
 unfolding registerFrom
 registerFrom-lt r [] h = h
 registerFrom-lt r (b ∷ row) h = registerFrom-lt (step r b) row (step-lt r h b)
+
+pub register-lt : (row : List Bool) → register row < 2 ^ 32
+register-lt row = registerFrom-lt 0xFFFFFFFF row (lit< tt)
 
 -- ---- over a row of bytes, byte by byte
 pub register-more : (row : List ℕ) (r i : ℕ) → i < length row

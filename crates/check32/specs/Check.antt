@@ -37,6 +37,6 @@ register row = registerFrom 0xFFFFFFFF row
 abbrev pub checkBits : List Bool → List Bool
 checkBits row = highFirst 32 (register row)
 
--- the check of a row that ends with its check bits is right
+-- a row that ends with its check is right if the register over all its bits ends at zero
 abbrev pub Closes : List Bool → Type 0
 Closes row = register row ≡ 0

@@ -10,12 +10,12 @@ use lib.ListN.{length}
 use Rattle.bits.specs.Row.{differences, flip}
 use Rattle.bits.specs.Xor.{_⊕_}
 use Rattle.bits.proofs.Differences.{differences-zero}
-use Rattle.bits.proofs.Flip.{length-flip, flip-flip, nearer}
+use Rattle.bits.proofs.Flip.{length-flip, flip-flip, nearer, OneOff, same, flipped, one-off}
 use Rattle.bits.proofs.Xor.{⊕-self, ⊕-equal}
 use Rattle.check32.specs.Check.{register, Closes}
-use Rattle.check32.specs.Residue.{residue, bitsAfter}
-use Rattle.check32.proofs.Linear.{registerFrom-flip, residue-not-zero}
-use Rattle.check32.proofs.Residue.{bitsAfter-found, bitsAfter-first}
+use Rattle.check32.specs.Residue.{residue}
+use Rattle.check32.proofs.Linear.{registerFrom-flip}
+use Rattle.check32.proofs.Residue.{residue-not-zero, bitsAfter-found, bitsAfter-first}
 use Rattle.distance.specs.Coding.{longest}
 use Rattle.distance.specs.Reading.{wrongAfter, wrongPlace}
 use Rattle.distance.proofs.Residues.{residues-differ}
@@ -37,7 +37,7 @@ flip-told row i l h c =
     let after = length row - suc i in
     let e : residue after ≡ register row = flip-closes row i h .0 c in
     let first : wrongAfter row ≤ after = bitsAfter-first (register row) (length row) after (omega arith) e in
-    let same : wrongAfter row ≡ after = residues-differ (wrongAfter row) after (omega arith) (omega arith) (bitsAfter-found (register row) (length row) (omega arith) ∙ sym e) in
+    let equal : wrongAfter row ≡ after = residues-differ (wrongAfter row) after (omega arith) (omega arith) (bitsAfter-found (register row) (length row) (omega arith) ∙ sym e) in
     (omega arith, omega arith)
 
 pub told-closes : (row : List Bool) → wrongAfter row < length row → Closes (flip (wrongPlace row) row)
@@ -53,19 +53,18 @@ one-flip row i j l h h' c c' = flip-told row i l h c .1 ∙ sym (flip-told row j
 pub three-apart : (a b : List Bool) → length a ≡ length b → length a ≤ longest → Closes a → Closes b → differences a b ≤ 2 → a ≡ b
 three-apart a b l s ca cb h = by (differences a b) refl h
   where
-    by : (d : ℕ) → differences a b ≡ d → d ≤ 2 → a ≡ b
-    by zero e h = differences-zero a b e
-    by (suc zero) e h =
-        let w = nearer a b 0 l e in
-        absurd (closes-alone b (w .place) (w .within) cb (ap register (sym (differences-zero a (flip (w .place) b) (w .left))) ∙ ca))
-    by (suc (suc zero)) e h =
-        let w = nearer a b 1 l e in
-        let i = w .place in
+    -- a is at most one place from a flip of b
+    goes : (i : ℕ) → i < length b → OneOff a (flip i b) → a ≡ b
+    goes i h (same e) = absurd (closes-alone b i h cb (ap register (sym e) ∙ ca))
+    goes i h (flipped j h' e) =
         let between = flip i b in
         let size = length-flip i b in
-        let v = nearer a between 0 (l ∙ sym size) (w .left) in
-        let from-a : a ≡ flip (v .place) between = differences-zero a (flip (v .place) between) (v .left) in
-        let from-b : b ≡ flip i between = sym (flip-flip i b) in
-        let same = one-flip between (v .place) i (omega arith) (v .within) (omega (arith, w .within)) (ap register (sym from-a) ∙ ca) (ap register (sym from-b) ∙ cb) in
-        from-a ∙ ap (λ (j : ℕ). flip j between) same ∙ sym from-b
-    by (suc (suc (suc d))) e h = absurd (omega arith)
+        let back = flip-flip i b in
+        let equal = one-flip between j i (omega arith) h' (omega arith) (ap register (sym e) ∙ ca) (ap register back ∙ cb) in
+        e ∙ ap (λ (n : ℕ). flip n between) equal ∙ back
+
+    by : (d : ℕ) → differences a b ≡ d → d ≤ 2 → a ≡ b
+    by zero e h = differences-zero a b e
+    by (suc d) e h =
+        let w = nearer a b d l e in
+        goes (w .place) (w .within) (one-off a (flip (w .place) b) (l ∙ sym (length-flip (w .place) b)) (omega (arith, w .left)))

@@ -4,14 +4,12 @@ use mathlib.Core.Path.{_≡_, refl, sym, ap, _∙_}
 use mathlib.Core.Bool.{Bool, true, false, cond}
 use mathlib.Core.List.{List}
 use mathlib.Core.Option.{Option, none, some, Option·none-ne-some}
-use Prim.Native.Nat.{ℕ, zero, suc, _<_, _≤_}
-use native.Mathlib.Omega.{arith}
+use Prim.Native.Nat.{ℕ, _<_, _≤_}
 use lib.Dec.{eqb, ltb}
 use lib.ListN.{length}
 use borrow.Author.Tests.{eqb-true, ltb-true, eq-eqb, ne-eqb, lt-ltb, le-ltb}
 use Rattle.bits.specs.Row.{differences, flip}
-use Rattle.bits.proofs.Differences.{differences-zero}
-use Rattle.bits.proofs.Flip.{length-flip, nearer}
+use Rattle.bits.proofs.Flip.{length-flip, OneOff, same, flipped, one-off}
 use Rattle.check32.specs.Check.{register, Closes}
 use Rattle.distance.specs.Coding.{longest}
 use Rattle.distance.specs.Reading.{wrongAfter, wrongPlace, candidate, passing}
@@ -36,7 +34,7 @@ unfolding candidate
 candidate-closes row a e = decided (eqb (register row) 0) (ltb (wrongAfter row) (length row)) refl refl e
   where
     at : (x : List Bool) → some x ≡ some a → (length x ≡ length row) × Closes x → (length a ≡ length row) × Closes a
-    at x e w = let same : x ≡ a = cc in rw same at w
+    at x e w = let equal : x ≡ a = cc in rw equal at w
 
     decided : (b d : Bool) → eqb (register row) 0 ≡ b → ltb (wrongAfter row) (length row) ≡ d
         → cond b (some row) (cond d (some (flip (wrongPlace row) row)) none) ≡ some a → (length a ≡ length row) × Closes a
@@ -46,18 +44,14 @@ candidate-closes row a e = decided (eqb (register row) 0) (ltb (wrongAfter row) 
     decided false false p q e = absurd (Option·none-ne-some a e)
 
 pub candidate-found : (row a : List Bool) → length row ≤ longest → length a ≡ length row → Closes a → differences a row ≤ 1 → candidate row ≡ some a
-candidate-found row a s l c h = by (differences a row) refl h
+candidate-found row a s l c h = goes (one-off a row l h)
   where
-    by : (d : ℕ) → differences a row ≡ d → d ≤ 1 → candidate row ≡ some a
-    by zero e h = let same = differences-zero a row e in candidate-row row (ap register (sym same) ∙ c) ∙ ap some (sym same)
-    by (suc zero) e h =
-        let w = nearer a row 0 l e in
-        let same = differences-zero a (flip (w .place) row) (w .left) in
-        let closes = ap register (sym same) ∙ c in
-        let told = flip-told row (w .place) s (w .within) closes in
-        candidate-flip row (λ d. closes-alone row (w .place) (w .within) d closes) (told .0)
-        ∙ ap some (ap (λ (i : ℕ). flip i row) (sym (told .1)) ∙ sym same)
-    by (suc (suc d)) e h = absurd (omega arith)
+    goes : OneOff a row → candidate row ≡ some a
+    goes (same e) = candidate-row row (ap register (sym e) ∙ c) ∙ ap some (sym e)
+    goes (flipped i h e) =
+        let closes = ap register (sym e) ∙ c in
+        let told = flip-told row i s h closes in
+        candidate-flip row (λ d. closes-alone row i h d closes) (told .0) ∙ ap some (ap (λ (n : ℕ). flip n row) (sym (told .1)) ∙ sym e)
 
 -- ---- what a test leaves of it
 pub passing-some : (test : List Bool → Bool) (o : Option (List Bool)) (a : List Bool) → passing test o ≡ some a → (o ≡ some a) × (test a ≡ true)
@@ -66,7 +60,7 @@ passing-some test none a e = absurd (Option·none-ne-some a e)
 passing-some test (some x) a e = decided (test x) refl e
   where
     decided : (b : Bool) → test x ≡ b → cond b (some x) none ≡ some a → (some x ≡ some a) × (test a ≡ true)
-    decided true t e = let same : x ≡ a = cc in (e, rw same at t)
+    decided true t e = let equal : x ≡ a = cc in (e, rw equal at t)
     decided false t e = absurd (Option·none-ne-some a e)
 
 pub some-passing : (test : List Bool → Bool) (o : Option (List Bool)) (a : List Bool) → o ≡ some a → test a ≡ true → passing test o ≡ some a

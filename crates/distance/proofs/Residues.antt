@@ -2,7 +2,7 @@
 -- Assumes nothing.
 use mathlib.Core.Path.{_≡_, refl, sym, ap, _∙_, subst}
 use mathlib.Core.Bool.{Bool, true, false, not, _&&_}
-use Prim.Native.Nat.{ℕ, zero, suc, _+_, _<_, _≤_}
+use Prim.Native.Nat.{ℕ, zero, suc, _+_, _-_, _<_}
 use native.Mathlib.Nat.{add-zero, suc-add, add-suc}
 use native.Mathlib.Numerals.{add-one}
 use native.Mathlib.Omega.{arith}
@@ -21,7 +21,7 @@ unfolding fastStep
 walk zero r = true
 walk (suc n) r = not (eqb r x32) && walk n (fastStep r false)
 
-walked : T (walk 117215 (fastStep x32 false))
+walked : T (walk (longest - 1) (fastStep x32 false))
 unfolding walk fastStep
 walked = tt
 
@@ -42,7 +42,7 @@ no-return : (n : ℕ) → suc n < longest → residue (suc n) ≡ residue 0 → 
 no-return n h e =
     let start : fastStep x32 false ≡ residue 1 = ap (λ (r : ℕ). fastStep r false) (sym residue-start) ∙ next 0 in
     let here : residue (1 + n) ≡ x32 = ap residue (omega arith) ∙ e ∙ residue-start in
-    passed 117215 1 (subst (λ (r : ℕ). T (walk 117215 r)) start walked) n (omega arith) here
+    passed (longest - 1) 1 (subst (λ (r : ℕ). T (walk (longest - 1) r)) start walked) n (omega arith) here
 
 pub residues-differ : (m n : ℕ) → m < longest → n < longest → residue m ≡ residue n → m ≡ n
 unfolding residue

@@ -1,17 +1,16 @@
 -- What trying every place finds: only what passes the test, and that where one alone passes.
 -- Assumes nothing.
-use mathlib.Core.Path.{_≡_, refl, sym, ap, _∙_, subst}
+use mathlib.Core.Path.{_≡_, refl, sym, ap, _∙_}
 use mathlib.Core.Logic.{_⊎_, inl, inr, ⊎-elim}
 use mathlib.Core.Bool.{Bool, true, false, cond, true≢false}
 use mathlib.Core.List.{List}
-use mathlib.Core.Option.{Option, none, some, Option·none-ne-some}
-use Prim.Native.Nat.{ℕ, zero, suc, _+_, _<_, _≤_}
+use mathlib.Core.Option.{Option, some, Option·none-ne-some}
+use Prim.Native.Nat.{ℕ, zero, suc, _+_, _<_, _≤_, zero-le}
 use native.Mathlib.Nat.{eq-or-lt-of-le}
 use native.Mathlib.Omega.{arith}
 use lib.ListN.{length}
 use Rattle.bits.specs.Row.{differences, flip}
-use Rattle.bits.proofs.Differences.{differences-zero}
-use Rattle.bits.proofs.Flip.{nearer}
+use Rattle.bits.proofs.Flip.{OneOff, same, flipped, one-off}
 use Rattle.distance.specs.Reading.{firstFlip, tryEach}
 
 either : (b : Bool) (x a : List Bool) (o : Option (List Bool)) → cond b (some x) o ≡ some a → ((b ≡ true) × (x ≡ a)) ⊎ (o ≡ some a)
@@ -48,12 +47,8 @@ module _ (test : List Bool → Bool) (row a : List Bool) where
 
     pub tried-found : length a ≡ length row → differences a row ≤ 1 → tryEach test row ≡ some a
     unfolding tryEach
-    tried-found l h = by (differences a row) refl h
+    tried-found l h = goes (one-off a row l h)
       where
-        by : (d : ℕ) → differences a row ≡ d → d ≤ 1 → cond (test row) (some row) (firstFlip test row 0 (length row)) ≡ some a
-        by zero e h = let same = differences-zero a row e in rw (← same, passes)
-        by (suc zero) e h =
-            let w = nearer a row 0 l e in
-            picked row (firstFlip test row 0 (length row)) (test row) refl
-            (λ f. flip-found 0 (length row) (w .place) (omega arith) (omega (arith, w .within)) (differences-zero a (flip (w .place) row) (w .left)))
-        by (suc (suc d)) e h = absurd (omega arith)
+        goes : OneOff a row → cond (test row) (some row) (firstFlip test row 0 (length row)) ≡ some a
+        goes (same e) = rw (← e, passes)
+        goes (flipped i h e) = picked row (firstFlip test row 0 (length row)) (test row) refl (λ f. flip-found 0 (length row) i zero-le (omega arith) e)

@@ -2,13 +2,14 @@
 -- Assumes nothing.
 use mathlib.Core.Path.{_≡_, refl, sym, ap, _∙_}
 use mathlib.Core.Bool.{Bool, false}
-use mathlib.Core.List.{List, [], _∷_, _++_, map}
-use Prim.Native.Nat.{ℕ, suc, _≤_, zero-le}
+use mathlib.Core.List.{List, [], _∷_, map}
+use Prim.Native.Nat.{ℕ, suc, _+_, _<_, _≤_, zero-le}
 use native.Mathlib.Nat.{le-trans}
+use native.Mathlib.Numerals.{add-one}
 use native.Mathlib.Omega.{arith}
-use lib.ListN.{length, drop, replicate, length-drop, length-map, length-replicate}
-use lib.Seq.{drop-append-seam}
-use Rattle.bits.specs.Row.{differ, differences}
+use lib.ListN.{length, getD, drop, replicate, length-drop, length-map, length-replicate}
+use lib.Seq.{drop-cons, drop-drop, drop-append-seam}
+use Rattle.bits.specs.Row.{differences}
 use Rattle.bits.specs.Xor.{xorRows}
 use Rattle.bits.proofs.Differences.{differences-drop}
 use Rattle.bits.proofs.XorRows.{length-xorRows, xorRows-twice, differences-xorRows}
@@ -22,6 +23,12 @@ xBits-weave [] (passed ∷ parity) tail e = absurd (omega arith)
 xBits-weave (x ∷ xs) [] tail e = absurd (omega arith)
 xBits-weave (x ∷ xs) (passed ∷ parity) tail e =
     ap {B = List Bool} (λ l. x ∷ l) (ap (xBits (map length parity)) (drop-append-seam passed (weave xs parity tail)) ∙ xBits-weave xs parity tail (omega arith))
+
+-- clock by clock, for code that reads X at a place and passes over n parity bits
+pub xBits-next : (n at : ℕ) (counts : List ℕ) (row : List Bool) → at < length row
+    → xBits (n ∷ counts) (drop at row) ≡ getD row at false ∷ xBits counts (drop (at + 1 + n) row)
+unfolding xBits
+xBits-next n at counts row h = rw (drop-cons row at false h, add-one, drop-drop n (suc at) row)
 
 xBits-le : (counts : List ℕ) (row : List Bool) → length (xBits counts row) ≤ length row
 unfolding xBits

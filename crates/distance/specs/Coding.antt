@@ -7,7 +7,7 @@ use Prim.Native.Nat.{ℕ, _≤_}
 use lib.ListN.{length, drop}
 use Rattle.bits.specs.Xor.{xorRows}
 
--- no link has more bits in its blocks
+-- up to so many bits the register tells one wrong place from another; no link has more
 abbrev pub longest : ℕ
 longest = 117216
 

@@ -11,12 +11,12 @@ use Rattle.check32.specs.Residue.{bitsAfter}
 use Rattle.distance.specs.Coding.{Coding, image, received}
 use Rattle.distance.specs.Valid.{allZero, bitsOver, valid}
 
--- the first that passes a test: of a row with the bit inverted at one of `left` places from i on
+-- a row with one bit inverted, at the first of `left` places from i on where it then passes a test
 unfoldable pub firstFlip : (List Bool → Bool) → List Bool → ℕ → ℕ → Option (List Bool)
 firstFlip test row i zero = none
 firstFlip test row i (suc left) = cond (test (flip i row)) (some (flip i row)) (firstFlip test row (i + 1) left)
 
--- of a row as it is and then with each of its bits inverted
+-- the row itself if it passes a test, else the first flip of it that does
 unfoldable pub tryEach : (List Bool → Bool) → List Bool → Option (List Bool)
 tryEach test row = cond (test row) (some row) (firstFlip test row 0 (length row))
 
@@ -28,9 +28,9 @@ isNear c came a = leb (differences (image c a) came) 1
 unfoldable pub standsFor : Coding → List Bool → List Bool → Bool
 standsFor c came a = valid c a && isNear c came a
 
--- the received bits if they stand for what came, else the first flip of them that does, else nothing
-unfoldable pub readBlock : Coding → List Bool → Option (List Bool)
-readBlock c came = tryEach (standsFor c came) (received c came)
+-- the received k bits if they stand for what came, else the first flip of them that does, else nothing
+unfoldable pub readByTrying : Coding → List Bool → Option (List Bool)
+readByTrying c came = tryEach (standsFor c came) (received c came)
 
 -- ---- one candidate
 -- how many bits come after the wrong one, and the place where it is
@@ -46,14 +46,14 @@ candidate row =
     cond (eqb (register row) 0) (some row)
     (cond (ltb (wrongAfter row) (length row)) (some (flip (wrongPlace row) row)) none)
 
--- what of a candidate is left by a test
+-- what a test leaves of a candidate
 unfoldable pub passing : (List Bool → Bool) → Option (List Bool) → Option (List Bool)
 passing test none = none
 passing test (some a) = cond (test a) (some a) none
 
--- the rest of the test: the check is right already
-unfoldable pub holdsUp : Coding → List Bool → List Bool → Bool
-holdsUp c came a = allZero (bitsOver c a) && isNear c came a
+-- what is still asked of a candidate, which closes already: its bits over are zero and its image is near
+unfoldable pub accepted : Coding → List Bool → List Bool → Bool
+accepted c came a = allZero (bitsOver c a) && isNear c came a
 
-unfoldable pub readCandidate : Coding → List Bool → Option (List Bool)
-readCandidate c came = passing (holdsUp c came) (candidate (received c came))
+unfoldable pub readByCandidate : Coding → List Bool → Option (List Bool)
+readByCandidate c came = passing (accepted c came) (candidate (received c came))

@@ -1,4 +1,4 @@
--- The top bit and the bit that comes in decide whether the generator is added. Assumes nothing.
+-- The bit that falls out and the one that comes in decide whether the generator is added. Assumes nothing.
 use mathlib.Core.Path.{_≡_, refl}
 use mathlib.Core.Bool.{Bool, true, false}
 use native.Mathlib.Omega.{arith}
@@ -14,8 +14,8 @@ cast : (b : Bool) → boolByte b ≡ byte b
 cast true = refl
 cast false = refl
 
-cast-top : tie.Need-cast-top
-cast-top c = omega (arith, cast (c .args .bit), byte-lt (c .args .bit))
+cast-differs : tie.Need-cast-differs
+cast-differs c = omega (arith, cast (c .args .bit), byte-lt (c .args .bit))
 
 mul-result : tie.Need-mul-result
 mul-result c = record { fits = product-fits (c .args .r) (omega arith) (boolByte (c .args .bit)) (omega (arith, cast (c .args .bit), byte-lt (c .args .bit))) }
@@ -24,4 +24,4 @@ returns : tie.Need-returns
 returns c = step-word (c .args .r) (omega arith) (c .args .bit) (boolByte (c .args .bit)) (cast (c .args .bit))
 
 pub step-spec : {M : Type 1} → statement M
-step-spec = tie.close (tie.spec cast-top mul-result returns)
+step-spec = tie.close (tie.spec cast-differs mul-result returns)
