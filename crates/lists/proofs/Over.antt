@@ -2,13 +2,13 @@
 -- Assumes nothing.
 use mathlib.Core.Path.{_≡_, refl, sym, ap, _∙_}
 use mathlib.Core.List.{List, [], _∷_, _++_, append-nil, append-assoc}
-use Prim.Native.Nat.{ℕ, suc, _+_, _<_, _≤_}
+use Prim.Native.Nat.{ℕ, suc, _+_, _<_}
 use native.Mathlib.Nat.{add-zero, zero-add, add-assoc}
 use native.Mathlib.Numerals.{add-one}
 use native.Mathlib.Omega.{arith}
 use lib.ListN.{length, set, take, drop, take-append-drop, drop-of-length-le, length-append, length-drop}
 use lib.Seq.{set-split, append-snoc, take-at, drop-at, drop-drop, length-take-le}
-use Rattle.lists.specs.Over.{over, Room, Laying}
+use Rattle.lists.specs.Over.{over, Room, Lays, Laying}
 
 -- nothing laid changes nothing
 over-nil : (at : ℕ) (old : List ℕ) → over at [] old ≡ old
@@ -20,7 +20,6 @@ pub over-zero : (p old : List ℕ) → over 0 p old ≡ p ++ drop (length p) old
 unfolding over
 over-zero p old = rw zero-add
 
--- a store lays one element
 over-set : (at v : ℕ) (old : List ℕ) → at < length old → set old at v ≡ over at (v ∷ []) old
 unfolding over
 over-set at v old h = set-split old at v h ∙ sym (append-snoc (take at old) v (drop (suc at) old)) ∙ rw add-one
@@ -43,30 +42,43 @@ over-over at p q old h =
     let b : drop (n + length q) (l ++ drop n old) ≡ drop (n + length q) old = sym (drop-drop (length q) n (l ++ drop n old)) ∙ ap (drop (length q)) (drop-at l (drop n old) n (front at p old h)) ∙ drop-drop (length q) n old in
     rw (f, b, length-append p q, ← add-assoc at (length p) (length q), ← append-assoc (take at old) p q)
 
+-- a store lays one element
+pub lays-one : (at v : ℕ) (old : List ℕ) → at < length old → Lays at (v ∷ []) old (set old at v) (at + 1)
+lays-one at v old h = (refl, over-set at v old h)
+
 -- a loop that lays: at its start all is left
 pub start : (old : List ℕ) (from : ℕ) (goal : List ℕ) → Room from goal old → Laying old from goal old from goal
 start old from goal h = record { finish = refl; ends = refl; long = refl; room = h }
 
 module _ {old : List ℕ} {from : ℕ} {goal out : List ℕ} {at : ℕ} {rest : List ℕ} where
-  -- there is room for the next element
-  pub fits : (v : ℕ) (rest' : List ℕ) → Laying old from goal out at rest → rest ≡ v ∷ rest' → at < length out
-  fits v rest' w e = omega (arith, ap length e, add-one (length rest'), w .ends, w .long, w .room)
+  -- there is room for the next piece, and for the next element
+  pub fits-piece : (p rest' : List ℕ) → Laying old from goal out at rest → rest ≡ p ++ rest' → Room at p out
+  fits-piece p rest' w e = omega (arith, ap length e, length-append p rest', w .ends, w .long, w .room)
 
-  -- the next element is stored
-  pub more : (v : ℕ) (rest' : List ℕ) → Laying old from goal out at rest → rest ≡ v ∷ rest' → Laying old from goal (set out at v) (at + 1) rest'
-  more v rest' w e =
-      let f = fits v rest' w e in
-      let laid = over-set at v out f in
+  pub fits : (v : ℕ) (rest' : List ℕ) → Laying old from goal out at rest → rest ≡ v ∷ rest' → at < length out
+  fits v rest' w e = let room = fits-piece (v ∷ []) rest' w e in omega arith
+
+  -- the next piece is laid, or the next element stored
+  pub more-piece : (p rest' : List ℕ) {out' : List ℕ} {place : ℕ} → Laying old from goal out at rest → rest ≡ p ++ rest' → Lays at p out out' place → Laying old from goal out' place rest'
+  more-piece p rest' w e l =
+      let room = fits-piece p rest' w e in
       record {
-        finish = rw (laid, over-over at (v ∷ []) rest' out (omega arith), ← e) (w .finish);
-        ends = omega (arith, ap length e, add-one (length rest'), w .ends);
-        long = ap length laid ∙ over-length at (v ∷ []) out (omega arith) ∙ w .long;
+        finish = rw (l .1, l .0, over-over at p rest' out room, ← e) (w .finish);
+        ends = omega (arith, ap length e, length-append p rest', w .ends, l .0);
+        long = ap length (l .1) ∙ over-length at p out room ∙ w .long;
         room = w .room;
       }
 
+  pub more : (v : ℕ) (rest' : List ℕ) → Laying old from goal out at rest → rest ≡ v ∷ rest' → Laying old from goal (set out at v) (at + 1) rest'
+  more v rest' w e = more-piece (v ∷ []) rest' w e (lays-one at v out (fits v rest' w e))
+
+  -- the last call lays all that is left
+  pub last : {out' : List ℕ} {place : ℕ} → Laying old from goal out at rest → Lays at rest out out' place → Lays from goal old out' place
+  last w l = (l .0 ∙ w .ends, l .1 ∙ w .finish)
+
   -- at its end nothing is left
-  pub done : Laying old from goal out at rest → rest ≡ [] → out ≡ over from goal old
-  done w e = sym (over-nil at out) ∙ rw (← e) (w .finish)
+  pub done : Laying old from goal out at rest → rest ≡ [] → Lays from goal old out at
+  done w e = (omega (arith, ap length e, w .ends), sym (over-nil at out) ∙ rw (← e) (w .finish))
 
 -- what is as long as what stood there takes its place whole
 pub over-all : (p old : List ℕ) → length p ≡ length old → over 0 p old ≡ p

@@ -12,6 +12,10 @@ over at p old = take at old ++ p ++ drop (at + length p) old
 abbrev pub Room : ℕ → List ℕ → List ℕ → Type 0
 Room at p old = at + length p ≤ length old
 
+-- what a function that lays p from at on does: it answers the place behind p
+abbrev pub Lays : ℕ → List ℕ → List ℕ → List ℕ → ℕ → Type 0
+Lays at p old new place = (place ≡ at + length p) × (new ≡ over at p old)
+
 -- goal is being laid over old from `from` on: out is what stands there now, done up to `at`, and rest is what is left to lay
 pub record Laying (old : List ℕ) (from : ℕ) (goal out : List ℕ) (at : ℕ) (rest : List ℕ) : Type 0 where
   pub finish : over at rest out ≡ over from goal old

@@ -62,7 +62,7 @@ same-length : tie.Need-same-length Inv-loop μ-loop
 same-length c = c .before .loop .inv .1 .long
 
 returns : tie.Need-returns Inv-loop μ-loop
-returns c = done (c .before .loop .inv .1) (bits-done (c .before .before .args .word) (c .before .loop .i) (omega arith))
+returns c = done (c .before .loop .inv .1) (bits-done (c .before .before .args .word) (c .before .loop .i) (omega arith)) .1
 
 pub lay-row-spec : {M : Type 1} → statement M
 lay-row-spec =

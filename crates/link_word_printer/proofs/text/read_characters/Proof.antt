@@ -64,7 +64,7 @@ returns-2 c =
     let at = c .before .before .before .loop in
     let line = c .before .before .before .before .before .before .args .line .now in
     let full = length-map line bitOf ∙ at .inv .1 ∙ sym (at .inv .2) in
-    c .read2 .ensures ∙ ap readWord (done (at .inv .3) (bits-none line (at .i) (omega arith)) ∙ over-all (map bitOf line) _ full)
+    c .read2 .ensures ∙ ap readWord (done (at .inv .3) (bits-none line (at .i) (omega arith)) .1 ∙ over-all (map bitOf line) _ full)
 
 pub read-characters-spec : {M : Type 1} → statement M
 read-characters-spec =
