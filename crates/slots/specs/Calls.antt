@@ -1,0 +1,74 @@
+-- What writing and reading a slot burst answer (document 01, "Numbers a caller gets back").
+use mathlib.Core.Bool.{Bool, cond}
+use mathlib.Core.List.{List, [], map}
+use Prim.Native.Nat.{ℕ}
+use lib.Dec.{eqb, ltb}
+use lib.ListN.{length, take, drop}
+use Rattle.answers.specs.declared.Written.{Written}
+use Rattle.answers.specs.Numbers.{done, notOffered, wrongLength, noRoom, noBit, noTraining}
+use Rattle.answers.specs.Outcome.{Outcome, refusal, writing}
+use Rattle.bits.specs.Bits.{isOne, byte, allBits}
+use Rattle.bits.specs.Row.{differences}
+use Rattle.blocks.specs.declared.Block.{Block}
+use Rattle.blocks.specs.Calls.{readBlock}
+use Rattle.links.specs.Rows.{rowOf}
+use Rattle.links.specs.Sizes.{bytesHeld}
+use Rattle.words.specs.declared.Word.{Word}
+use Rattle.words.specs.Calls.{readWord, refused as refusedWord}
+use Rattle.slots.specs.declared.Slot.{Slot}
+use Rattle.slots.specs.Burst.{training, trainingLength, headLength, isSlotLink, burstLength, burstOf}
+
+-- ---- writing, in the order 1, 2, 3
+unfoldable pub writeSlot : ℕ → List ℕ → ℕ → Outcome Written
+writeSlot link datagram room =
+    cond (isSlotLink link)
+    (cond (ltb (bytesHeld (rowOf link)) (length datagram)) (refusal wrongLength)
+    (cond (ltb room (burstLength link)) (refusal noRoom)
+    (writing (map byte (burstOf link datagram)))))
+    (refusal notOffered)
+
+-- ---- reading: the head, in the order 2, 4, 5, 6, 1; then the rest as a block
+-- in how many bits the training of a burst differs
+unfoldable pub trainingWrong : List ℕ → ℕ
+trainingWrong bits = differences training (map isOne (take trainingLength bits))
+
+-- the link word of a burst
+abbrev pub wordOfBurst : List ℕ → List ℕ
+wordOfBurst bits = take 32 (drop trainingLength bits)
+
+-- a word that was read is that of a slot link, or it is refused with 1
+unfoldable pub slotWord : Word → Word
+slotWord word = cond (eqb (word .status) done) (cond (isSlotLink (word .number)) word (refusedWord notOffered)) word
+
+-- the link of the head and its word's own wrong, or the number of a refusal
+unfoldable pub readHead : List ℕ → Word
+readHead bits =
+    cond (ltb (length bits) headLength) (refusedWord wrongLength)
+    (cond (allBits (take headLength bits))
+    (cond (eqb (trainingWrong bits) 0) (slotWord (readWord (wordOfBurst bits))) (refusedWord noTraining))
+    (refusedWord noBit))
+
+-- a reader that refuses: the number, and 0 for all else
+abbrev pub refused : ℕ → Outcome Slot
+refused number = record { answer = record { status = number; count = 0; wrong = 0; link = 0; «word_wrong» = 0 }; bytes = [] }
+
+-- what was read of the rest, with what was read of the head
+unfoldable pub joined : Word → Outcome Block → Outcome Slot
+joined head block =
+    cond (eqb (block .answer .status) done)
+    (record {
+      answer = record {
+        status = done;
+        count = block .answer .count;
+        wrong = block .answer .wrong;
+        link = head .number;
+        «word_wrong» = head .wrong;
+      };
+      bytes = block .bytes;
+    })
+    (refused (block .answer .status))
+
+unfoldable pub readSlot : List ℕ → ℕ → Outcome Slot
+readSlot bits room =
+    cond (eqb (readHead bits .status) done) (joined (readHead bits) (readBlock (readHead bits .number) (drop headLength bits) room))
+    (refused (readHead bits .status))

@@ -1,0 +1,11 @@
+// Slot bursts (M.2092-1, Annex 3, Table 23; document 01, "Slot bursts"): training, link word and block.
+
+// What reading a slot burst answers: what reading its block does, its link, and the link word's own wrong.
+#[repr(C)]
+pub struct Slot {
+    pub status: u32,
+    pub count: u32,
+    pub wrong: u32,
+    pub link: u32,
+    pub word_wrong: u32,
+}
