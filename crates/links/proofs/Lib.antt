@@ -1,1 +1,5 @@
+pub mod Clocks
+pub mod Facts
+pub mod Good
+pub mod Search
 pub mod Table

@@ -1,3 +1,4 @@
 pub mod All
+pub mod Every
 pub mod Line
 pub mod Over
