@@ -1,6 +1,6 @@
 -- How many bits the clocks of a pattern and of a tail pass on.
 -- Assumes nothing.
-use mathlib.Core.Path.{_≡_, refl, ap, _∙_}
+use mathlib.Core.Path.{_≡_}
 use mathlib.Core.List.{List, [], _∷_, _++_}
 use Prim.Native.Nat.{ℕ, zero, suc, _+_, _≤_, zero-le}
 use native.Mathlib.Nat.{suc-add}
@@ -8,10 +8,10 @@ use native.Mathlib.Omega.{arith}
 use lib.Dec.{T}
 use lib.ListN.{getD, take, drop, take-append-drop}
 use Rattle.links.specs.declared.Row.{Row}
-use Rattle.links.specs.Patterns.{patternOf, tailOf, flagsAt, total}
+use Rattle.links.specs.Patterns.{patternOf, flagsAt, total}
 use Rattle.links.specs.Sizes.{passedOn, tailBits, imageLength}
 use Rattle.links.specs.Good.{goodRow}
-use Rattle.links.proofs.Facts.{Pattern, pattern, clock-at}
+use Rattle.links.proofs.Flags.{Pattern, pattern, clock-at}
 
 -- on m clocks and n more
 pub passed-on-split : (clocks : List (List ℕ)) (s m n : ℕ) → passedOn clocks s (m + n) ≡ passedOn clocks s m + passedOn clocks (s + m) n

@@ -1,5 +1,6 @@
 pub mod Clocks
 pub mod Facts
+pub mod Flags
 pub mod Good
 pub mod Search
 pub mod Table

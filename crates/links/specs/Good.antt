@@ -59,9 +59,9 @@ goodClock flags = together (eqb (length flags) 6 ∷ eqb (getD flags 0 0) 1 ∷ 
 unfoldable pub goodPattern : List (List ℕ) → Bool
 goodPattern clocks = together (ltb 0 (length clocks) ∷ leb (length clocks) 10 ∷ every goodClock clocks ∷ [])
 
--- a clock of a tail passes on one encoder only: nothing of what is silent, the three flags of the other
-unfoldable pub alone : (List ℕ → List ℕ) → List ℕ → Bool
-alone silent flags = together (eqb (length flags) 6 ∷ every (atMost 2) flags ∷ every (atMost 0) (silent flags) ∷ [])
+-- a clock of a tail passes on nothing of one encoder, `of` its three flags, and of the other no bit more than twice
+unfoldable pub silent : (List ℕ → List ℕ) → List ℕ → Bool
+silent of flags = together (eqb (length flags) 6 ∷ every (atMost 2) flags ∷ every (atMost 0) (of flags) ∷ [])
 
 abbrev pub ofFirst : List ℕ → List ℕ
 ofFirst flags = take 3 flags
@@ -71,7 +71,7 @@ ofSecond flags = drop 3 flags
 
 -- three clocks of the first encoder, three of the second
 unfoldable pub goodTail : List (List ℕ) → Bool
-goodTail clocks = together (eqb (length clocks) 6 ∷ every (alone ofSecond) (take 3 clocks) ∷ every (alone ofFirst) (drop 3 clocks) ∷ [])
+goodTail clocks = together (eqb (length clocks) 6 ∷ every (silent ofSecond) (take 3 clocks) ∷ every (silent ofFirst) (drop 3 clocks) ∷ [])
 
 unfoldable pub goodRow : Row → Bool
 goodRow row = together (goodSizes row ∷ goodPrimes row ∷ goodPattern (patternOf (row .pattern)) ∷ goodTail (tailOf (row .tail)) ∷ [])
