@@ -1,3 +1,4 @@
+pub mod Good
 pub mod Patterns
 pub mod Rows
 pub mod Sizes

@@ -1,3 +1,5 @@
 pub mod Coded
 pub mod Encoder
 pub mod Interleaver
+pub mod Outputs
+pub mod Parity

@@ -1,0 +1,78 @@
+-- The coded bits of a block on a good row are N.
+-- Assumes nothing.
+use mathlib.Core.Path.{_≡_, refl, sym, ap, ap₂, _∙_}
+use mathlib.Core.Bool.{Bool, false}
+use mathlib.Core.List.{List, [], _∷_}
+use Prim.Native.Nat.{ℕ, suc, _+_, _<_}
+use native.Mathlib.Omega.{arith}
+use lib.Dec.{T}
+use lib.ListN.{length, getD, take, drop, length-append, length-take, length-drop}
+use lib.Seq.{getD-take, getD-drop}
+use Rattle.links.specs.declared.Row.{Row}
+use Rattle.links.specs.Patterns.{patternOf, tailOf, flagsAt}
+use Rattle.links.specs.Sizes.{passedOn, tailBits, imageLength}
+use Rattle.links.specs.Good.{goodRow}
+use Rattle.links.proofs.Flags.{Pattern, Tail, clock-at, pattern, tail}
+use Rattle.links.proofs.Clocks.{tail-bits-split}
+use Rattle.turbo.specs.Encoder.{Register, start, feedback, next, y0, y1}
+use Rattle.turbo.specs.Interleaver.{interleaved}
+use Rattle.turbo.specs.Coded.{six, passed, endingOfFirst, endingOfSecond, ending, codedFrom, coded}
+use Rattle.turbo.proofs.Interleaved.{length-interleaved}
+use Rattle.turbo.proofs.Passing.{length-passed}
+
+-- every clock has six flags
+abbrev SixEach : List (List ℕ) → Type 0
+SixEach clocks = (i : ℕ) → i < length clocks → length (getD clocks i []) ≡ 6
+
+length-first : (clocks : List (List ℕ)) → SixEach clocks → (a : Register) → length (endingOfFirst clocks a) ≡ tailBits clocks
+unfolding endingOfFirst tailBits
+length-first [] each a = refl
+length-first (flags ∷ clocks) each a =
+    let bits = feedback a ∷ y0 a (feedback a) ∷ y1 a (feedback a) ∷ false ∷ false ∷ false ∷ [] in
+    let more = next a (feedback a) in
+    length-append (passed flags bits) (endingOfFirst clocks more)
+    ∙ ap₂ _+_ (length-passed flags bits (omega (arith, each 0 (omega arith)))) (length-first clocks (λ i h. each (suc i) (omega arith)) more)
+
+length-second : (clocks : List (List ℕ)) → SixEach clocks → (b : Register) → length (endingOfSecond clocks b) ≡ tailBits clocks
+unfolding endingOfSecond tailBits
+length-second [] each b = refl
+length-second (flags ∷ clocks) each b =
+    let bits = false ∷ false ∷ false ∷ feedback b ∷ y0 b (feedback b) ∷ y1 b (feedback b) ∷ [] in
+    let more = next b (feedback b) in
+    length-append (passed flags bits) (endingOfSecond clocks more)
+    ∙ ap₂ _+_ (length-passed flags bits (omega (arith, each 0 (omega arith)))) (length-second clocks (λ i h. each (suc i) (omega arith)) more)
+
+pub length-ending : (clocks : List (List ℕ)) → Tail clocks → (a b : Register) → length (ending clocks a b) ≡ tailBits clocks
+length-ending clocks good a b =
+    length-append (endingOfFirst (take 3 clocks) a) (endingOfSecond (drop 3 clocks) b)
+    ∙ ap₂ _+_ (length-first (take 3 clocks) first a) (length-second (drop 3 clocks) second b)
+    ∙ sym (tail-bits-split 3 clocks)
+  where
+    first : SixEach (take 3 clocks)
+    first i h =
+        let below : i < 3 = omega (arith, length-take 3 clocks) in
+        ap length (getD-take 3 clocks i [] below) ∙ good .first i below .six
+
+    second : SixEach (drop 3 clocks)
+    second i h = ap length (getD-drop 3 clocks i []) ∙ good .second i (omega (arith, length-drop 3 clocks, good .six)) .six
+
+pub length-coded-from : (pattern tail : List (List ℕ)) → Pattern pattern → Tail tail → (s : ℕ) (a b : Register) (u v : List Bool) → length u ≡ length v
+    → length (codedFrom pattern tail s a b u v) ≡ passedOn pattern s (length u) + tailBits tail
+unfolding codedFrom passedOn six
+length-coded-from pattern tail p t s a b [] v l = length-ending tail t a b ∙ omega arith
+length-coded-from pattern tail p t s a b (x ∷ u) [] l = absurd (omega arith)
+length-coded-from pattern tail p t s a b (x ∷ u) (y ∷ v) l =
+    let rest = codedFrom pattern tail (suc s) (next a x) (next b y) u v in
+    omega (
+      arith,
+      length-append (passed (flagsAt pattern s) (six a b x y)) rest,
+      length-passed (flagsAt pattern s) (six a b x y) (omega (arith, clock-at pattern p s .six)),
+      length-coded-from pattern tail p t (suc s) (next a x) (next b y) u v (omega arith),
+    )
+
+pub length-coded : (row : Row) → T (goodRow row) → (u : List Bool) → length u ≡ row .k → length (coded row u) ≡ imageLength row
+unfolding coded imageLength
+length-coded row good u l =
+    let clocks = patternOf (row .pattern) in
+    length-coded-from clocks (tailOf (row .tail)) (pattern row good) (tail row good) 0 start start u (interleaved row u) (l ∙ sym (length-interleaved row u))
+    ∙ ap (λ (n : ℕ). passedOn clocks 0 n + tailBits (tailOf (row .tail))) l

@@ -1,0 +1,163 @@
+-- π is a permutation of the places 1 to k on every good row.
+-- Assumes nothing.
+use mathlib.Core.Path.{_≡_, sym, ap, ap₂, subst, _∙_}
+use Prim.Native.Nat.{ℕ, _+_, _-_, _*_, _/_, _%_, _<_}
+use native.Mathlib.Nat.{mod-lt, mod-le, lt-of-le-of-lt, div-add-mod', div-div-eq-div-mul, mod-eq-sub-div-mul, div-lt-iff-lt-mul, add-comm, mul-assoc, zero-lt-suc}
+use native.Mathlib.Omega.{arith}
+use lib.Arith.{digits-lt, digits-div, digits-mod}
+use lib.Dec.{T}
+use Rattle.links.specs.declared.Row.{Row}
+use Rattle.links.specs.Good.{goodRow, inverse}
+use Rattle.links.proofs.Facts.{prime, sizes, inverses}
+use Rattle.turbo.specs.Interleaver.{position, InBlock}
+use Rattle.turbo.proofs.Affine.{affine, affineBack, back-affine, affine-back}
+
+-- x + 1 - 1
+less-one : (x : ℕ) → x + 1 - 1 ≡ x
+less-one x = omega arith
+
+module _ (row : Row) where
+  abbrev half : ℕ
+  half = row .k1 / 2
+
+  -- t, c and π(s) from the digits m, i, j of s - 1
+  abbrev tOf : ℕ → ℕ
+  tOf i = affine half 19 1 i
+
+  abbrev cOf : ℕ → ℕ → ℕ → ℕ
+  cOf m t j = affine (row .k2) (prime row (t % 8)) (21 * m) j
+
+  abbrev placeOf : ℕ → ℕ → ℕ → ℕ
+  placeOf m t c = 2 * (t + c * half + 1) - m
+
+  abbrev digitsPlace : ℕ → ℕ → ℕ → ℕ
+  digitsPlace m i j = placeOf m (tOf i) (cOf m (tOf i) j)
+
+  position-is : (s : ℕ) → position row s ≡ digitsPlace ((s - 1) % 2) ((s - 1) / 2 / row .k2) ((s - 1) / 2 % row .k2)
+  unfolding position
+  position-is s =
+      let m = (s - 1) % 2 in
+      let x = (s - 1) / 2 in
+      let i = (s - 1) / (2 * row .k2) in
+      ap (λ (q : ℕ). placeOf m (tOf i) (affine (row .k2) (prime row q) (21 * m) (x - i * row .k2))) (less-one (tOf i % 8))
+      ∙ ap (λ (i : ℕ). digitsPlace m i (x - i * row .k2)) (sym (div-div-eq-div-mul (s - 1) 2 (row .k2)))
+      ∙ ap (digitsPlace m (x / row .k2)) (sym (mod-eq-sub-div-mul x (row .k2)))
+
+  -- the s with π(s) = r, from the digits m, t, c of r
+  abbrev clockFrom : ℕ → ℕ → ℕ → ℕ
+  clockFrom m i j = 2 * (i * row .k2 + j) + m + 1
+
+  abbrev iBack : ℕ → ℕ
+  iBack t = affineBack half (inverse 19 half) 1 t
+
+  abbrev jBack : ℕ → ℕ → ℕ → ℕ
+  jBack m t c = affineBack (row .k2) (inverse (prime row (t % 8)) (row .k2)) (21 * m) c
+
+  abbrev digitsClock : ℕ → ℕ → ℕ → ℕ
+  digitsClock m t c = clockFrom m (iBack t) (jBack m t c)
+
+-- the clock at which the second encoder takes bit r
+unfoldable pub clockOf : Row → ℕ → ℕ
+clockOf row r =
+    let v = (r + r % 2) / 2 - 1 in
+    digitsClock row (r % 2) (v % (row .k1 / 2)) (v / (row .k1 / 2))
+
+-- the last digit and the rest of a place
+place-last : (x m : ℕ) → m < 2 → (2 * (x + 1) - m) % 2 ≡ m
+place-last x m h = omega arith
+
+place-rest : (x m : ℕ) → m < 2 → (2 * (x + 1) - m + m) / 2 - 1 ≡ x
+place-rest x m h = omega arith
+
+module _ (row : Row) (good : T (goodRow row)) where
+  some-half : 0 < half row
+  some-half = sizes row good .half
+
+  some-width : 0 < row .k2
+  some-width = sizes row good .width
+
+  k-is : row .k ≡ 2 * (half row * row .k2)
+  k-is = sym (sizes row good .product) ∙ ap (λ (x : ℕ). x * row .k2) (sym (sizes row good .even)) ∙ mul-assoc 2 (half row) (row .k2)
+
+  place-in : (m t c : ℕ) → m < 2 → t < half row → c < row .k2 → InBlock row (placeOf row m t c)
+  place-in m t c hm ht hc =
+      let below : c * half row + t < row .k2 * half row = digits-lt hc ht in
+      omega (arith, k-is)
+
+  -- π(s) is a place of the block
+  pub position-in-range : (s : ℕ) → InBlock row (position row s)
+  position-in-range s =
+      subst (InBlock row) (sym (position-is row s))
+      (place-in ((s - 1) % 2) _ _ (omega arith) (mod-lt _ some-half) (mod-lt _ some-width))
+
+  clock-in : (m i j : ℕ) → m < 2 → i < half row → j < row .k2 → InBlock row (clockFrom row m i j)
+  clock-in m i j hm hi hj =
+      let below : i * row .k2 + j < half row * row .k2 = digits-lt hi hj in
+      omega (arith, k-is)
+
+  pub clock-in-range : (r : ℕ) → InBlock row (clockOf row r)
+  unfolding clockOf
+  clock-in-range r = clock-in (r % 2) _ _ (omega arith) (mod-lt _ some-half) (mod-lt _ some-width)
+
+  prime-inverse : (t : ℕ) → t < half row → prime row (t % 8) * inverse (prime row (t % 8)) (row .k2) % row .k2 ≡ 1 % row .k2
+  prime-inverse t h = inverses row good .of-prime (t % 8) (mod-lt t (zero-lt-suc 7)) (lt-of-le-of-lt (mod-le t 8) h)
+
+  -- ---- from a clock to its place and back
+  clock-place : (m t c : ℕ) → m < 2 → t < half row → clockOf row (placeOf row m t c) ≡ digitsClock row m t c
+  unfolding clockOf
+  clock-place m t c hm ht =
+      let x = t + c * half row in
+      ap₂ (λ (m v : ℕ). digitsClock row m (v % half row) (v / half row)) (place-last x m hm)
+      (ap (λ (m' : ℕ). (placeOf row m t c + m') / 2 - 1) (place-last x m hm) ∙ place-rest x m hm ∙ add-comm t (c * half row))
+      ∙ ap₂ (digitsClock row m) (digits-mod c ht) (digits-div c ht)
+
+  clock-digits : (m i j : ℕ) → m < 2 → i < half row → j < row .k2 → clockOf row (digitsPlace row m i j) ≡ clockFrom row m i j
+  clock-digits m i j hm hi hj =
+      let t = tOf row i in
+      let ht : t < half row = mod-lt (19 * i + 1) some-half in
+      clock-place m t (cOf row m t j) hm ht
+      ∙ ap₂ (clockFrom row m) (back-affine (half row) 19 (inverse 19 (half row)) 1 some-half (inverses row good .of-19) i hi)
+      (back-affine (row .k2) (prime row (t % 8)) (inverse (prime row (t % 8)) (row .k2)) (21 * m) some-width (prime-inverse t ht) j hj)
+
+  pub clock-position : (s : ℕ) → InBlock row s → clockOf row (position row s) ≡ s
+  clock-position s h =
+      let x = (s - 1) / 2 in
+      ap (clockOf row) (position-is row s)
+      ∙ clock-digits ((s - 1) % 2) (x / row .k2) (x % row .k2) (omega arith) (div-lt-iff-lt-mul some-width .1 (omega (arith, k-is))) (mod-lt x some-width)
+      ∙ ap (λ (y : ℕ). 2 * y + (s - 1) % 2 + 1) (div-add-mod' x (row .k2))
+      ∙ omega arith
+
+  -- ---- from a place to its clock and back
+  position-clock-from : (m i j : ℕ) → m < 2 → j < row .k2 → position row (clockFrom row m i j) ≡ digitsPlace row m i j
+  position-clock-from m i j hm hj =
+      position-is row (clockFrom row m i j)
+      ∙ ap₂ (λ (m x : ℕ). digitsPlace row m (x / row .k2) (x % row .k2)) (last (i * row .k2 + j)) (rest (i * row .k2 + j))
+      ∙ ap₂ (digitsPlace row m) (digits-div i hj) (digits-mod i hj)
+    where
+      last : (x : ℕ) → (2 * x + m + 1 - 1) % 2 ≡ m
+      last x = omega arith
+
+      rest : (x : ℕ) → (2 * x + m + 1 - 1) / 2 ≡ x
+      rest x = omega arith
+
+  position-digits : (m t c : ℕ) → m < 2 → t < half row → c < row .k2 → position row (digitsClock row m t c) ≡ placeOf row m t c
+  position-digits m t c hm ht hc =
+      let j = jBack row m t c in
+      position-clock-from m (iBack row t) j hm (mod-lt _ some-width)
+      ∙ ap (λ (t' : ℕ). placeOf row m t' (cOf row m t' j)) (affine-back (half row) 19 (inverse 19 (half row)) 1 some-half (inverses row good .of-19) t ht)
+      ∙ ap (placeOf row m t) (affine-back (row .k2) (prime row (t % 8)) (inverse (prime row (t % 8)) (row .k2)) (21 * m) some-width (prime-inverse t ht) c hc)
+
+  pub position-clock : (r : ℕ) → InBlock row r → position row (clockOf row r) ≡ r
+  unfolding clockOf
+  position-clock r h =
+      let v = (r + r % 2) / 2 - 1 in
+      position-digits (r % 2) (v % half row) (v / half row) (omega arith) (mod-lt v some-half) (div-lt-iff-lt-mul some-half .1 (omega (arith, k-is)))
+      ∙ ap (λ (x : ℕ). 2 * (x + 1) - r % 2) (add-comm (v % half row) (v / half row * half row) ∙ div-add-mod' v (half row))
+      ∙ omega arith
+
+  -- ---- a permutation
+  pub position-injective : (s r : ℕ) → InBlock row s → InBlock row r → position row s ≡ position row r → s ≡ r
+  position-injective s r hs hr e = sym (clock-position s hs) ∙ ap (clockOf row) e ∙ clock-position r hr
+
+  pub position-onto : (r : ℕ) → InBlock row r → (s : ℕ) × InBlock row s × (position row s ≡ r)
+  position-onto r h = (clockOf row r, clock-in-range r, position-clock r h)
