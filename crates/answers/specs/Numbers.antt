@@ -1,14 +1,14 @@
--- The numbers a caller gets back (document 01, the table of that name), as far as a call gives them.
+-- The numbers a caller gets back (document 01, the table of that name).
 use Prim.Native.Nat.{ℕ}
 
 abbrev pub done : ℕ
 done = 0
 
--- link not offered; number above 63 for a link word
+-- link not offered; number above 63 for a link word; slot burst not of link 5, 6, 7
 abbrev pub notOffered : ℕ
 notOffered = 1
 
--- link word of the wrong length
+-- datagram longer than the link holds; link word, block or slot burst of the wrong length
 abbrev pub wrongLength : ℕ
 wrongLength = 2
 
@@ -20,9 +20,17 @@ noRoom = 3
 abbrev pub noBit : ℕ
 noBit = 4
 
+-- training differs
+abbrev pub noTraining : ℕ
+noTraining = 5
+
 -- no code word within seven
 abbrev pub noWord : ℕ
 noWord = 6
+
+-- no valid block's image within one
+abbrev pub noBlock : ℕ
+noBlock = 7
 
 -- position past the end
 abbrev pub pastEnd : ℕ

@@ -2,9 +2,10 @@
 -- places, since every clock passes its X on, and the scrambler adds a fixed sequence. What the parity bits and the tail are is left open.
 use mathlib.Core.Path.{_≡_}
 use mathlib.Core.Bool.{Bool}
-use mathlib.Core.List.{List, [], _∷_, _++_, map}
+use mathlib.Core.List.{List, [], _∷_, map}
 use Prim.Native.Nat.{ℕ, _≤_}
 use lib.ListN.{length, drop}
+use Rattle.bits.specs.Weave.{weave}
 use Rattle.bits.specs.Xor.{xorRows}
 
 -- up to so many bits the register tells one wrong place from another; no link has more
@@ -26,12 +27,6 @@ pub record Coding : Type 0 where
   pub tail : List Bool → List Bool
   -- the scrambler's sequence
   pub key : List Bool
-
--- clock by clock X and then the parity bits that the clock passes on, then the tail
-unfoldable pub weave : List Bool → List (List Bool) → List Bool → List Bool
-weave [] parity tail = tail
-weave (x ∷ xs) [] tail = x ∷ weave xs [] tail
-weave (x ∷ xs) (passed ∷ parity) tail = x ∷ passed ++ weave xs parity tail
 
 -- the bits X taken out again
 unfoldable pub xBits : List ℕ → List Bool → List Bool

@@ -1,7 +1,7 @@
-pub mod Clocks
 pub mod Facts
-pub mod Flags
 pub mod Good
+pub mod GoodFlags
+pub mod PassedOn
 pub mod Places
 pub mod Search
 pub mod Table

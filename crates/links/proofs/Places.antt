@@ -1,15 +1,12 @@
 -- The rows of the table by their places, as the code keeps them: the numbers of a row and its primes in two tables.
 -- Assumes nothing.
-use mathlib.Core.Path.{_≡_, refl, sym, ap, ap₂, _∙_}
+use mathlib.Core.Path.{_≡_, refl, ap, ap₂}
 use mathlib.Core.List.{List, [], _∷_, map}
-use Prim.Native.Nat.{ℕ, zero, suc, _+_, _<_, _≤_}
-use native.Mathlib.Numerals.{add-one}
+use Prim.Native.Nat.{ℕ, zero, suc, _<_}
 use native.Mathlib.Omega.{arith}
-use lib.ListN.{length, getD, drop, drop-of-length-le}
-use lib.Seq.{drop-cons}
-use borrow.Author.Tests.{eq-eqb, ne-eqb}
+use lib.ListN.{length, getD}
 use Rattle.links.specs.declared.Row.{Row}
-use Rattle.links.specs.Rows.{row, rows, noRow, placeIn, place}
+use Rattle.links.specs.Rows.{row, rows, noRow}
 
 pub count : length rows ≡ 22
 unfolding rows
@@ -36,16 +33,3 @@ row-is i h = ap₂ joined (entry numbers rows i (omega (arith, count))) (entry p
 
 pub link-is : (i : ℕ) → i < 22 → getD (getD (map numbers rows) i []) 0 0 ≡ getD rows i noRow .link
 link-is i h = ap (λ (ns : List ℕ). getD ns 0 0) (entry numbers rows i (omega (arith, count)))
-
--- ---- the search for a link
-pub place-here : (link i : ℕ) → i < 22 → getD rows i noRow .link ≡ link → placeIn (drop i rows) link ≡ 0
-unfolding placeIn
-place-here link i h e = rw (drop-cons rows i noRow (omega (arith, count)), eq-eqb (getD rows i noRow .link) link e)
-
-pub place-later : (link i : ℕ) → i < 22 → (getD rows i noRow .link ≡ link → ⊥) → placeIn (drop i rows) link ≡ suc (placeIn (drop (i + 1) rows) link)
-unfolding placeIn
-place-later link i h e = rw (drop-cons rows i noRow (omega (arith, count)), ne-eqb (getD rows i noRow .link) link e, add-one)
-
-pub place-none : (link i : ℕ) → 22 ≤ i → placeIn (drop i rows) link ≡ 0
-unfolding placeIn
-place-none link i h = rw (drop-of-length-le rows {i = i} (omega (arith, count)))

@@ -12,8 +12,8 @@ use Rattle.links.specs.declared.Row.{Row}
 use Rattle.links.specs.Patterns.{patternOf, tailOf, flagsAt}
 use Rattle.links.specs.Sizes.{passedOn, tailBits, imageLength}
 use Rattle.links.specs.Good.{goodRow}
-use Rattle.links.proofs.Flags.{Pattern, Tail, clock-at, pattern, tail}
-use Rattle.links.proofs.Clocks.{tail-bits-split}
+use Rattle.links.proofs.GoodFlags.{Pattern, Tail, clock-at, pattern, tail}
+use Rattle.links.proofs.PassedOn.{tail-bits-split}
 use Rattle.turbo.specs.Encoder.{Register, start, feedback, next, y0, y1}
 use Rattle.turbo.specs.Interleaver.{interleaved}
 use Rattle.turbo.specs.Coded.{six, passed, endingOfFirst, endingOfSecond, ending, codedFrom, coded}

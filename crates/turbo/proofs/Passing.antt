@@ -8,7 +8,7 @@ use native.Mathlib.Omega.{arith}
 use lib.ListN.{length, getD, take, drop, replicate, length-append, length-replicate}
 use Rattle.links.specs.Patterns.{total}
 use Rattle.links.specs.Good.{ofFirst, ofSecond}
-use Rattle.links.proofs.Flags.{Silent}
+use Rattle.links.proofs.GoodFlags.{Silent}
 use Rattle.turbo.specs.Coded.{passed}
 
 -- how much passes depends on the flags only

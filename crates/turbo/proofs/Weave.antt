@@ -10,11 +10,12 @@ use lib.ListN.{length, drop, length-drop}
 use Rattle.links.specs.declared.Row.{Row}
 use Rattle.links.specs.Patterns.{patternOf, tailOf, flagsAt, total}
 use Rattle.links.specs.Good.{goodRow}
-use Rattle.links.proofs.Flags.{Clock, Pattern, clock-at, pattern, tail}
+use Rattle.links.proofs.GoodFlags.{Clock, Pattern, clock-at, pattern, tail}
 use Rattle.turbo.specs.Encoder.{Register, start, next}
 use Rattle.turbo.specs.Interleaver.{interleaved}
 use Rattle.turbo.specs.Coded.{six, passed, ending, codedFrom, coded}
-use Rattle.turbo.specs.Parity.{parityFrom, countsFrom, registerAfter, parityOf, countsOf, tailBitsOf, weave}
+use Rattle.bits.specs.Weave.{weave}
+use Rattle.turbo.specs.Parity.{parityFrom, countsFrom, registerAfter, parityOf, countsOf, tailBitsOf}
 use Rattle.turbo.proofs.Interleaved.{length-interleaved}
 use Rattle.turbo.proofs.Passing.{length-passed, passed-x}
 

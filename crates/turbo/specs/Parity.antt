@@ -35,9 +35,3 @@ countsOf row = countsFrom (patternOf (row .pattern)) 0 (row .k)
 
 abbrev pub tailBitsOf : Row → List Bool → List Bool
 tailBitsOf row u = ending (tailOf (row .tail)) (registerAfter start u) (registerAfter start (interleaved row u))
-
--- clock by clock X and then the parity bits that the clock passes on, then the tail
-unfoldable pub weave : List Bool → List (List Bool) → List Bool → List Bool
-weave [] parity tail = tail
-weave (x ∷ xs) [] tail = x ∷ weave xs [] tail
-weave (x ∷ xs) (passed ∷ parity) tail = x ∷ passed ++ weave xs parity tail

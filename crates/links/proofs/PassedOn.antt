@@ -11,7 +11,7 @@ use Rattle.links.specs.declared.Row.{Row}
 use Rattle.links.specs.Patterns.{patternOf, flagsAt, total}
 use Rattle.links.specs.Sizes.{passedOn, tailBits, imageLength}
 use Rattle.links.specs.Good.{goodRow}
-use Rattle.links.proofs.Flags.{Pattern, pattern, clock-at}
+use Rattle.links.proofs.GoodFlags.{Pattern, pattern, clock-at}
 
 -- on m clocks and n more
 pub passed-on-split : (clocks : List (List ℕ)) (s m n : ℕ) → passedOn clocks s (m + n) ≡ passedOn clocks s m + passedOn clocks (s + m) n
