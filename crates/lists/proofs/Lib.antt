@@ -1,3 +1,4 @@
 pub mod All
 pub mod Line
 pub mod Over
+pub mod Parts
