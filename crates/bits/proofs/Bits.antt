@@ -14,7 +14,7 @@ pub byte-lt : (b : Bool) → byte b < 2
 byte-lt true = omega arith
 byte-lt false = omega arith
 
-isOne-byte : (b : Bool) → isOne (byte b) ≡ b
+pub isOne-byte : (b : Bool) → isOne (byte b) ≡ b
 isOne-byte true = refl
 isOne-byte false = refl
 

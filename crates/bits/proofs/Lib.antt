@@ -1,5 +1,7 @@
 pub mod Bits
+pub mod Datagram
 pub mod Differences
+pub mod Filled
 pub mod Flip
 pub mod Ones
 pub mod Row

@@ -1,23 +1,29 @@
 -- A row of bits and its number: bit by bit, and back.
 -- Assumes nothing.
-use mathlib.Core.Path.{_≡_, refl, sym, ap, _∙_}
+use mathlib.Core.Path.{_≡_, refl, sym, ap, ap₂, _∙_}
 use mathlib.Core.Bool.{Bool, true, false}
 use mathlib.Core.List.{List, [], _∷_, map}
 use Prim.Native.Nat.{ℕ, zero, suc, _+_, _-_, _*_, _/_, _%_, _^_, _<_, _≤_}
-use native.Mathlib.Nat.{pow-suc, pow-succ', one-le-pow, add-mul, mul-assoc, pow-le-pow-right, zero-lt-suc, mod-lt, mod-eq-of-lt}
+use native.Mathlib.Nat.{pow-suc, pow-succ', one-le-pow, add-mul, mul-assoc, pow-le-pow-right, zero-lt-suc, mod-lt, mod-eq-of-lt, add-zero, zero-add, add-suc, suc-add, sub-zero, suc-sub-suc}
 use native.Mathlib.Numerals.{add-one}
 use native.Mathlib.Omega.{arith}
-use lib.Arith.{digits-lt, mod-mul}
+use lib.Arith.{digits-lt, digits-div, mod-mul}
 use lib.ListN.{length, getD, drop, drop-of-length-le}
 use lib.Seq.{drop-cons}
 use Rattle.bits.specs.Bits.{isOne, byte}
 use Rattle.bits.specs.Row.{highFirst, numberOn, number}
-use Rattle.bits.proofs.Bits.{byte-lt, byte-isOne}
+use Rattle.bits.proofs.Bits.{byte-lt, byte-isOne, isOne-byte}
 
 pub length-highFirst : (n w : ℕ) → length (highFirst n w) ≡ n
 unfolding highFirst
 length-highFirst zero w = refl
 length-highFirst (suc n) w = ap suc (length-highFirst n w)
+
+pub highFirst-at : (n w i : ℕ) → i < n → getD (highFirst n w) i false ≡ isOne (w / 2 ^ (n - suc i) % 2)
+unfolding highFirst
+highFirst-at zero w i h = absurd (omega arith)
+highFirst-at (suc n) w zero h = rw (suc-sub-suc, sub-zero)
+highFirst-at (suc n) w (suc i) h = rw suc-sub-suc (highFirst-at n w i (omega arith))
 
 -- ---- the number of a row of bytes, byte by byte
 pub number-more : (row : List ℕ) (w i : ℕ) → i < length row
@@ -65,3 +71,32 @@ back (suc n) a w =
 
 pub number-highFirst : (n w : ℕ) → w < 2 ^ n → number (highFirst n w) ≡ w
 number-highFirst n w h = back n 0 w ∙ omega (arith, mod-eq-of-lt h)
+
+-- ---- a row is the bits of its number
+on-lt : (w i : ℕ) (row : List Bool) → w < 2 ^ i → numberOn w row < 2 ^ (i + length row)
+unfolding numberOn
+on-lt w i [] h = rw add-zero h
+on-lt w i (b ∷ row) h = rw add-suc (rw suc-add at (on-lt (w * 2 + byte b) (suc i) row (rw add-one at (more-fits w i b h))))
+
+pub number-lt : (row : List Bool) → number row < 2 ^ length row
+number-lt row = rw zero-add at (on-lt 0 0 row (zero-lt-suc 0))
+
+on-split : (w : ℕ) (row : List Bool) → numberOn w row ≡ w * 2 ^ length row + number row
+unfolding numberOn
+on-split w [] = omega arith
+on-split w (b ∷ row) =
+    let p = 2 ^ length row in
+    on-split (w * 2 + byte b) row
+    ∙ rw (pow-succ' 2 (length row), zero-add, on-split (byte b) row) (omega (arith, add-mul (w * 2) (byte b) p, mul-assoc w 2 p))
+
+on-bits : (w : ℕ) (row : List Bool) → highFirst (length row) (numberOn w row) ≡ row
+unfolding numberOn highFirst
+on-bits w [] = refl
+on-bits w (b ∷ row) =
+    let v = w * 2 + byte b in
+    let first : numberOn v row / 2 ^ length row ≡ v = ap (λ (x : ℕ). x / 2 ^ length row) (on-split v row) ∙ digits-div v (number-lt row) in
+    let last : v % 2 ≡ byte b = omega (arith, byte-lt b) in
+    ap₂ _∷_ (ap (λ (x : ℕ). isOne (x % 2)) first ∙ ap isOne last ∙ isOne-byte b) (on-bits v row)
+
+pub highFirst-number : (row : List Bool) → highFirst (length row) (number row) ≡ row
+highFirst-number row = on-bits 0 row

@@ -1,0 +1,132 @@
+-- Bytes to bits and back.
+-- Assumes nothing.
+use mathlib.Core.Path.{_≡_, refl, sym, ap, ap₂, _∙_}
+use mathlib.Core.Bool.{Bool, true, false, _&&_}
+use mathlib.Core.List.{List, [], _∷_, _++_, map, append-assoc}
+use Prim.Native.Nat.{ℕ, zero, suc, _+_, _-_, _*_, _/_, _%_, _^_, _≤_, _<_}
+use native.Mathlib.Nat.{zero-add, zero-div, pow-le-pow-right, zero-lt-suc}
+use native.Mathlib.Omega.{arith}
+use borrow.Author.Tests.{ltb-true, lt-ltb}
+use lib.Dec.{ltb}
+use lib.ListN.{length, getD, take, drop, replicate, take-append-drop, length-append, length-replicate, length-drop, length-take, List·getD-append, replicate-append-replicate}
+use lib.Seq.{take-at, drop-at, take-append-le, take-take, length-take-le, getD-append-add}
+use Rattle.lists.specs.All.{all}
+use Rattle.lists.proofs.Parts.{drop-take}
+use Rattle.bits.specs.Bits.{isOne}
+use Rattle.bits.specs.Row.{highFirst, number}
+use Rattle.bits.specs.Datagram.{allBytes, bitsOf, filled, bytesOf}
+use Rattle.bits.proofs.Bits.{both-true}
+use Rattle.bits.proofs.Row.{length-highFirst, highFirst-at, number-highFirst, highFirst-number, number-lt}
+use Rattle.bits.proofs.Filled.{length-filled, filled-fits, take-filled}
+
+-- ---- bytes to bits
+pub length-bitsOf : (datagram : List ℕ) → length (bitsOf datagram) ≡ length datagram * 8
+unfolding bitsOf
+length-bitsOf [] = refl
+length-bitsOf (b ∷ datagram) = omega (arith, length-append (highFirst 8 b) (bitsOf datagram), length-highFirst 8 b, length-bitsOf datagram)
+
+pub bitsOf-append : (a b : List ℕ) → bitsOf (a ++ b) ≡ bitsOf a ++ bitsOf b
+unfolding bitsOf
+bitsOf-append [] b = refl
+bitsOf-append (x ∷ a) b = ap (λ (l : List Bool). highFirst 8 x ++ l) (bitsOf-append a b) ∙ sym (append-assoc (highFirst 8 x) (bitsOf a) (bitsOf b))
+
+-- bit t of byte j
+pub bitsOf-at : (datagram : List ℕ) (j t : ℕ) → t < 8 → getD (bitsOf datagram) (j * 8 + t) false ≡ isOne (getD datagram j 0 / 2 ^ (7 - t) % 2)
+unfolding bitsOf
+bitsOf-at [] j t h = rw zero-div
+bitsOf-at (b ∷ datagram) zero t h =
+    let place : 8 - suc t ≡ 7 - t = omega arith in
+    rw (zero-add, ← place) (List·getD-append (highFirst 8 b) (bitsOf datagram) false t (rw length-highFirst h) ∙ highFirst-at 8 b t h)
+bitsOf-at (b ∷ datagram) (suc j) t h =
+    let place : suc j * 8 + t ≡ length (highFirst 8 b) + (j * 8 + t) = omega (arith, length-highFirst 8 b) in
+    rw place (getD-append-add (highFirst 8 b) (bitsOf datagram) (j * 8 + t) false ∙ bitsOf-at datagram j t h)
+
+zero-bytes : (n : ℕ) → bitsOf (replicate n 0) ≡ replicate (n * 8) false
+unfolding bitsOf highFirst
+zero-bytes zero = refl
+zero-bytes (suc n) =
+    let more : 8 + n * 8 ≡ suc n * 8 = omega arith in
+    ap (λ (l : List Bool). replicate 8 false ++ l) (zero-bytes n)
+    ∙ replicate-append-replicate 8 (n * 8) false
+    ∙ ap (λ (k : ℕ). replicate k false) more
+
+-- the bits of a short datagram, filled, are those of the datagram filled with zero bytes
+pub filled-bitsOf : (m : ℕ) (datagram : List ℕ) → length datagram ≤ m → filled (m * 8) (bitsOf datagram) ≡ bitsOf (datagram ++ replicate (m - length datagram) 0)
+filled-bitsOf m datagram h =
+    let left : m * 8 - length (bitsOf datagram) ≡ (m - length datagram) * 8 = omega (arith, length-bitsOf datagram) in
+    filled-fits (m * 8) (bitsOf datagram) (omega (arith, length-bitsOf datagram))
+    ∙ ap (λ (k : ℕ). bitsOf datagram ++ replicate k false) left
+    ∙ ap (λ (l : List Bool). bitsOf datagram ++ l) (sym (zero-bytes (m - length datagram)))
+    ∙ sym (bitsOf-append datagram (replicate (m - length datagram) 0))
+
+-- ---- bits to bytes
+pub length-bytesOf : (m : ℕ) (row : List Bool) → length (bytesOf m row) ≡ m
+unfolding bytesOf
+length-bytesOf zero row = refl
+length-bytesOf (suc m) row = ap suc (length-bytesOf m (drop 8 row))
+
+-- only the first m * 8 bits count
+pub bytesOf-take : (m : ℕ) (row : List Bool) → bytesOf m (take (m * 8) row) ≡ bytesOf m row
+unfolding bytesOf
+bytesOf-take zero row = refl
+bytesOf-take (suc m) row =
+    let n = suc m * 8 in
+    let left : n - 8 ≡ m * 8 = omega arith in
+    ap₂ _∷_ (ap number (take-take 8 n row (omega arith))) (ap (bytesOf m) (rw left at (drop-take 8 n row)) ∙ bytesOf-take m (drop 8 row))
+
+pub bytesOf-append : (m : ℕ) (row rest : List Bool) → m * 8 ≤ length row → bytesOf m (row ++ rest) ≡ bytesOf m row
+bytesOf-append m row rest h = sym (bytesOf-take m (row ++ rest)) ∙ ap (bytesOf m) (take-append-le (m * 8) row rest h) ∙ bytesOf-take m row
+
+pub bytesOf-filled : (m n : ℕ) (row : List Bool) → m * 8 ≤ n → bytesOf m (filled n row) ≡ bytesOf m (filled (m * 8) row)
+bytesOf-filled m n row h = sym (bytesOf-take m (filled n row)) ∙ ap (bytesOf m) (take-filled (m * 8) n row h)
+
+-- what they make are bytes
+byte-small : (row : List Bool) → number (take 8 row) < 256
+byte-small row = omega (arith, number-lt (take 8 row), pow-le-pow-right {n = 2} (zero-lt-suc 1) {i = length (take 8 row)} {j = 8} (simp length-take (omega arith)))
+
+pub bytesOf-bytes : (m : ℕ) (row : List Bool) → allBytes (bytesOf m row) ≡ true
+unfolding bytesOf all
+bytesOf-bytes zero row = refl
+bytesOf-bytes (suc m) row = rw (lt-ltb (number (take 8 row)) 256 (byte-small row)) (bytesOf-bytes m (drop 8 row))
+
+-- ---- there and back
+pub bytesOf-bitsOf : (datagram : List ℕ) → allBytes datagram ≡ true → bytesOf (length datagram) (bitsOf datagram) ≡ datagram
+unfolding bitsOf bytesOf all
+bytesOf-bitsOf [] e = refl
+bytesOf-bitsOf (b ∷ datagram) e =
+    let p = both-true (ltb b 256) (allBytes datagram) e in
+    let first = take-at (highFirst 8 b) (bitsOf datagram) 8 (length-highFirst 8 b) in
+    let rest = drop-at (highFirst 8 b) (bitsOf datagram) 8 (length-highFirst 8 b) in
+    ap₂ _∷_ (ap number first ∙ number-highFirst 8 b (ltb-true b 256 (p .0))) (ap (bytesOf (length datagram)) rest ∙ bytesOf-bitsOf datagram (p .1))
+
+pub bitsOf-bytesOf : (m : ℕ) (row : List Bool) → length row ≡ m * 8 → bitsOf (bytesOf m row) ≡ row
+unfolding bitsOf bytesOf
+bitsOf-bytesOf zero [] e = refl
+bitsOf-bytesOf zero (b ∷ row) e = absurd (omega arith)
+bitsOf-bytesOf (suc m) row e =
+    let eight = length-take-le 8 row (omega arith) in
+    let first : highFirst 8 (number (take 8 row)) ≡ take 8 row = rw eight at (highFirst-number (take 8 row)) in
+    ap₂ _++_ first (bitsOf-bytesOf m (drop 8 row) (simp length-drop (omega arith))) ∙ take-append-drop 8 row
+
+zeros-bytes : (k : ℕ) → allBytes (replicate k 0) ≡ true
+unfolding all
+zeros-bytes zero = refl
+zeros-bytes (suc k) = zeros-bytes k
+
+-- zero bytes behind bytes
+pub fill-bytes : (datagram : List ℕ) (k : ℕ) → allBytes datagram ≡ true → allBytes (datagram ++ replicate k 0) ≡ true
+unfolding all
+fill-bytes [] k e = zeros-bytes k
+fill-bytes (b ∷ datagram) k e =
+    let p = both-true (ltb b 256) (allBytes datagram) e in
+    rw (p .0) (fill-bytes datagram k (p .1))
+
+-- m bytes of the bits of a datagram, of which n were kept, are the datagram filled with zero bytes
+pub datagram-back : (m n : ℕ) (datagram : List ℕ) → allBytes datagram ≡ true → length datagram ≤ m → m * 8 ≤ n
+    → bytesOf m (filled n (bitsOf datagram)) ≡ datagram ++ replicate (m - length datagram) 0
+datagram-back m n datagram e h l =
+    let whole = datagram ++ replicate (m - length datagram) 0 in
+    let long : length whole ≡ m = simp (length-append, length-replicate) (omega arith) in
+    bytesOf-filled m n (bitsOf datagram) l
+    ∙ ap (bytesOf m) (filled-bitsOf m datagram h)
+    ∙ rw long at (bytesOf-bitsOf whole (fill-bytes datagram (m - length datagram) e))
