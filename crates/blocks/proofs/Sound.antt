@@ -10,6 +10,7 @@ use lib.Dec.{T}
 use lib.ListN.{length}
 use Rattle.bits.specs.Xor.{xorRows}
 use Rattle.distance.specs.Coding.{Coding, Sound, coded as woven, image}
+use Rattle.distance.proofs.Weave.{length-image as coding-length-image}
 use Rattle.links.specs.declared.Row.{Row}
 use Rattle.links.specs.Good.{goodRow}
 use Rattle.links.specs.Sizes.{imageLength}
@@ -45,8 +46,5 @@ module _ (row : Row) (good : T (goodRow row)) where
       ∙ ap (λ (n : ℕ). xorRows (sequence n loaded) (coded row u)) (sym (length-coded row good u l))
 
   pub length-image : (u : List Bool) → length u ≡ row .k → length (imageOf row u) ≡ imageLength row
-  length-image u l = ap length (sym (image-is u l)) ∙ coding-image-length u l
-    where
-    coding-image-length : (u : List Bool) → length u ≡ row .k → length (image (codingOf row) u) ≡ imageLength row
-    unfolding codingOf
-    coding-image-length u l = length-coding-image (codingOf row) sound u l
+  unfolding codingOf
+  length-image u l = ap length (sym (image-is u l)) ∙ coding-length-image (codingOf row) sound u l

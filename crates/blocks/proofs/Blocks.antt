@@ -1,0 +1,67 @@
+-- The block of a datagram is valid, and holds the datagram, zero-filled.
+-- Assumes nothing.
+use mathlib.Core.Path.{_≡_, refl, sym, ap, _∙_}
+use mathlib.Core.Bool.{Bool, true, false}
+use mathlib.Core.List.{List, _++_}
+use Prim.Native.Nat.{ℕ, zero, suc, _-_, _*_, _≤_}
+use native.Mathlib.Omega.{arith}
+use lib.Dec.{T}
+use lib.ListN.{length, take, drop, replicate, length-append}
+use lib.Seq.{take-at}
+use Rattle.bits.specs.Datagram.{bitsOf, filled, bytesOf, allBytes}
+use Rattle.bits.proofs.Datagram.{length-bitsOf, bytesOf-append, datagram-back}
+use Rattle.bits.proofs.Filled.{length-filled, drop-filled}
+use Rattle.bits.proofs.Row.{length-highFirst}
+use Rattle.check32.specs.Check.{register, checkBits}
+use Rattle.check32.proofs.Closing.{closed}
+use Rattle.distance.specs.Valid.{allZero, bitsOver, valid}
+use Rattle.distance.proofs.Valid.{valid-from}
+use Rattle.links.specs.declared.Row.{Row}
+use Rattle.links.specs.Good.{goodRow}
+use Rattle.links.specs.Sizes.{openBits, bytesHeld}
+use Rattle.links.proofs.Facts.{sizes}
+use Rattle.blocks.specs.Block.{opening, blockOf, datagramOf, zeroFilled}
+use Rattle.blocks.specs.Coding.{codingOf}
+
+zeros : (n : ℕ) → allZero (replicate n false) ≡ true
+unfolding allZero
+zeros zero = refl
+zeros (suc n) = zeros n
+
+module _ (row : Row) (good : T (goodRow row)) (datagram : List ℕ) (fits : length datagram ≤ bytesHeld row) where
+  length-opening : length (opening row datagram) ≡ row .k - 32
+  length-opening = length-filled (openBits row) (bitsOf datagram)
+
+  pub length-block : length (blockOf row datagram) ≡ row .k
+  unfolding blockOf
+  length-block =
+      omega (
+        arith,
+        length-append (opening row datagram) (checkBits (opening row datagram)),
+        length-opening,
+        length-highFirst 32 (register (opening row datagram)),
+        sizes row good .check,
+      )
+
+  -- the bits over are zero
+  over-zero : allZero (bitsOver (codingOf row) (blockOf row datagram)) ≡ true
+  unfolding codingOf blockOf
+  over-zero =
+      rw (
+        take-at (opening row datagram) (checkBits (opening row datagram)) (row .k - 32) length-opening,
+        drop-filled (bytesHeld row * 8) (openBits row) (bitsOf datagram) (omega (arith, length-bitsOf datagram)),
+      )
+      (zeros (openBits row - bytesHeld row * 8))
+
+  -- the check closes it
+  pub block-valid : valid (codingOf row) (blockOf row datagram) ≡ true
+  unfolding codingOf blockOf
+  block-valid = valid-from (codingOf row) (blockOf row datagram) length-block (closed (opening row datagram)) over-zero
+
+  -- and its datagram comes back, filled with zero bytes
+  pub datagram-in-block : allBytes datagram ≡ true → datagramOf row (blockOf row datagram) ≡ zeroFilled row datagram
+  unfolding datagramOf blockOf zeroFilled
+  datagram-in-block e =
+      let room : bytesHeld row * 8 ≤ openBits row = omega (arith, sizes row good .whole) in
+      bytesOf-append (bytesHeld row) (opening row datagram) (checkBits (opening row datagram)) (omega (arith, length-opening))
+      ∙ datagram-back (bytesHeld row) (openBits row) datagram e fits room
