@@ -11,7 +11,7 @@ use lib.Seq.{getD-drop, drop-drop}
 use Rattle.links.specs.declared.Row.{Row}
 use Rattle.links.specs.Patterns.{patternOf, tailOf, flagsAt, total}
 use Rattle.links.specs.Good.{goodRow}
-use Rattle.links.proofs.Flags.{Clock, Pattern, clock-at, pattern, tail}
+use Rattle.links.proofs.Flags.{Clock, Pattern, clock-at, pattern}
 use Rattle.turbo.specs.Encoder.{Register, start, next, y0, y1}
 use Rattle.turbo.specs.Interleaver.{interleaved}
 use Rattle.turbo.specs.Coded.{six, passed, ending, codedFrom, coded}
@@ -63,17 +63,18 @@ length-counts-from pattern s zero = refl
 length-counts-from pattern s (suc n) = ap suc (length-counts-from pattern (suc s) n)
 
 -- of a block
-module _ (row : Row) (good : T (goodRow row)) where
-  pub length-counts : length (countsOf row) ≡ row .k
-  length-counts = length-counts-from (patternOf (row .pattern)) 0 (row .k)
+pub length-counts : (row : Row) → length (countsOf row) ≡ row .k
+length-counts row = length-counts-from (patternOf (row .pattern)) 0 (row .k)
 
-  module _ (u : List Bool) (l : length u ≡ row .k) where
-    both-long : length u ≡ length (interleaved row u)
-    both-long = l ∙ sym (length-interleaved row u)
+module _ (row : Row) (good : T (goodRow row)) (u : List Bool) (l : length u ≡ row .k) where
+  both-long : length u ≡ length (interleaved row u)
+  both-long = l ∙ sym (length-interleaved row u)
 
-    pub coded-weave : coded row u ≡ weave u (parityOf row u) (tailBitsOf row u)
-    unfolding coded
-    coded-weave = weave-from (patternOf (row .pattern)) (pattern row good) (tailOf (row .tail)) 0 start start u (interleaved row u) both-long
+  pub coded-weave : coded row u ≡ weave u (parityOf row u) (tailBitsOf row u)
+  unfolding coded
+  coded-weave = weave-from (patternOf (row .pattern)) (pattern row good) (tailOf (row .tail)) 0 start start u (interleaved row u) both-long
 
-    pub parity-counts : map length (parityOf row u) ≡ countsOf row
-    parity-counts = counts-from (patternOf (row .pattern)) (pattern row good) 0 start start u (interleaved row u) both-long ∙ ap (countsFrom (patternOf (row .pattern)) 0) l
+  pub parity-counts : map length (parityOf row u) ≡ countsOf row
+  parity-counts =
+      counts-from (patternOf (row .pattern)) (pattern row good) 0 start start u (interleaved row u) both-long
+      ∙ ap (countsFrom (patternOf (row .pattern)) 0) l
