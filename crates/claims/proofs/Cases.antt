@@ -1,16 +1,24 @@
 -- The cases of document 01 hold: antt computes the words and the places where they differ, and reading is exact.
 -- Assumes nothing.
 use mathlib.Core.Path.{_≡_, refl}
-use mathlib.Core.Bool.{Bool}
+use mathlib.Core.Bool.{Bool, true}
 use mathlib.Core.List.{List, map}
 use Prim.Native.Nat.{ℕ, _<_}
+use native.Mathlib.Omega.{arith}
 use lib.Dec.{T, ltb, ltb→lt, lit<, lit≤}
-use Rattle.answers.specs.Numbers.{noWord}
+use lib.ListN.{length}
+use Rattle.answers.specs.Numbers.{wrongLength, noWord}
+use Rattle.answers.specs.Outcome.{refusal}
 use Rattle.lists.specs.All.{all}
 use Rattle.lists.proofs.Line.{upto, line}
 use Rattle.bits.specs.Bits.{byte}
 use Rattle.bits.specs.Row.{highFirst, differences}
+use Rattle.blocks.specs.Calls.{writeBlock}
+use Rattle.blocks.proofs.Calls.{write-long}
+use Rattle.links.specs.Rows.{rows, placeIn, offered, rowOf}
+use Rattle.links.specs.Sizes.{bytesHeld}
 use Rattle.messages.specs.Step.{fillAt, messageAt, stepAt, stepMessage}
+use Rattle.turbo.proofs.Cases.{p7-y0, p7-y1, p8, p9}
 use Rattle.words.specs.Word.{generator, withRows, wordOf, wordBits}
 use Rattle.words.specs.Calls.{readWord, refused, found}
 use Rattle.words.proofs.Exact.{near-found, far-refused}
@@ -32,6 +40,17 @@ nine-wrong : readWord (map byte (inverted 9 (wordBits 0) (wordBits 1))) ≡ foun
 unfolding highFirst generator withRows wordOf differences
 nine-wrong = near-found (inverted 9 (wordBits 0) (wordBits 1)) refl 1 7 (record { known = lit< tt; count = refl; within = lit≤ tt })
 
+held-by-12 : bytesHeld (rowOf 12) ≡ 117
+unfolding rows placeIn rowOf
+held-by-12 = refl
+
+offered-12 : offered 12 ≡ true
+unfolding rows placeIn offered
+offered-12 = refl
+
+too-long : (datagram : List ℕ) (room : ℕ) → length datagram ≡ 118 → writeBlock 12 datagram room ≡ refusal wrongLength
+too-long datagram room l = write-long 12 datagram room offered-12 (omega (arith, held-by-12))
+
 pub cases : Cases
 unfolding generator withRows wordOf all fillAt messageAt stepAt stepMessage
-cases = record { P1 = refl; P2 = refl; P3 = refl; P4 = seven-wrong; P5 = eight-wrong; P6 = nine-wrong; P11 = (refl, refl, refl); P12 = (refl, refl, refl) }
+cases = record { P1 = refl; P2 = refl; P3 = refl; P4 = seven-wrong; P5 = eight-wrong; P6 = nine-wrong; P7 = (p7-y0, p7-y1); P8 = p8; P9 = p9; P10 = (held-by-12, too-long); P11 = (refl, refl, refl); P12 = (refl, refl, refl) }

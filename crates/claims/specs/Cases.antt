@@ -3,10 +3,19 @@ use mathlib.Core.Path.{_≡_}
 use mathlib.Core.Bool.{Bool, true, false, not}
 use mathlib.Core.List.{List, [], _∷_, _++_, map}
 use Prim.Native.Nat.{ℕ, zero, suc}
-use lib.ListN.{take, drop}
-use Rattle.answers.specs.Numbers.{noWord, pastEnd, brokenMessage}
+use lib.ListN.{length, take, drop, replicate}
+use Rattle.answers.specs.Numbers.{wrongLength, noWord, pastEnd, brokenMessage}
+use Rattle.answers.specs.Outcome.{refusal}
 use Rattle.bits.specs.Bits.{byte}
+use Rattle.blocks.specs.Calls.{writeBlock}
+use Rattle.links.specs.Patterns.{flags}
+use Rattle.links.specs.Rows.{rowOf}
+use Rattle.links.specs.Sizes.{bytesHeld}
 use Rattle.messages.specs.Step.{stepMessage, finished, message, refused as step-refused}
+use Rattle.turbo.specs.Encoder.{start, next, y0, y1}
+use Rattle.turbo.specs.Interleaver.{position}
+use Rattle.turbo.specs.Coded.{endingOfFirst}
+use Rattle.turbo.specs.Outputs.{outputs}
 use Rattle.words.specs.Word.{wordOf, wordBits}
 use Rattle.words.specs.Calls.{readWord, refused, found}
 
@@ -38,6 +47,14 @@ pub record Cases : Type 0 where
   pub P5 : readWord (map byte (firstInverted 8 (wordBits 5))) ≡ refused noWord
   -- the word of 0 with nine of the places inverted where it differs from the word of 1
   pub P6 : readWord (map byte (inverted 9 (wordBits 0) (wordBits 1))) ≡ found 1 7
+  -- input 1 and then zeros: Y0 and Y1
+  pub P7 : (map byte (outputs y0 start (true ∷ replicate 7 false)) ≡ 1 ∷ 1 ∷ 1 ∷ 1 ∷ 0 ∷ 0 ∷ 1 ∷ 0 ∷ []) × (map byte (outputs y1 start (true ∷ replicate 7 false)) ≡ 1 ∷ 1 ∷ 0 ∷ 1 ∷ 1 ∷ 1 ∷ 0 ∷ 0 ∷ [])
+  -- the ending straight after a single 1: X Y0 Y1 of its three clocks
+  pub P8 : map byte (endingOfFirst (replicate 3 (flags 1 1 1 0 0 0)) (next start true)) ≡ 0 ∷ 1 ∷ 1 ∷ 1 ∷ 0 ∷ 1 ∷ 1 ∷ 1 ∷ 1 ∷ []
+  -- link 20: π of 1 to 4, of 95 and of 96
+  pub P9 : map (position (rowOf 20)) (1 ∷ 2 ∷ 3 ∷ 4 ∷ 95 ∷ 96 ∷ []) ≡ 2 ∷ 43 ∷ 76 ∷ 21 ∷ 24 ∷ 65 ∷ []
+  -- link 12 holds 117 bytes, and 118 are refused, whatever they are and however large the buffer
+  pub P10 : (bytesHeld (rowOf 12) ≡ 117) × ((datagram : List ℕ) (room : ℕ) → length datagram ≡ 118 → writeBlock 12 datagram room ≡ refusal wrongLength)
   -- a message of 7 and a byte of fill, from 0, from 7 and from 9
   pub P11 : (stepMessage (declaring 7) 0 ≡ message 0 7) × (stepMessage (declaring 7) 7 ≡ finished) × (stepMessage (declaring 7) 9 ≡ step-refused pastEnd)
   -- the same with length 8, and with 9 or 6

@@ -1,7 +1,8 @@
 -- What the test of a row says of its sizes and of its interleaver.
 -- Assumes nothing.
-use mathlib.Core.Path.{_≡_}
+use mathlib.Core.Path.{_≡_, sym, ap, _∙_}
 use Prim.Native.Nat.{ℕ, _+_, _*_, _/_, _%_, _≤_, _<_}
+use native.Mathlib.Nat.{mul-assoc}
 use native.Mathlib.Omega.{arith}
 use lib.Dec.{T, eqb, ltb, leb, eqb→eq, ltb→lt, leb→le}
 use lib.ListN.{length, getD, take, length-take}
@@ -45,6 +46,12 @@ sizes row t =
       whole = omega arith;
     }
 
+-- k from the interleaver's numbers
+pub block-is : (row : Row) → T (goodRow row) → row .k ≡ 2 * (row .k1 / 2 * row .k2)
+block-is row t =
+    sym (sizes row t .product) ∙ ap (λ (x : ℕ). x * row .k2) (sym (sizes row t .even)) ∙ mul-assoc 2 (row .k1 / 2) (row .k2)
+
+-- a prime of the interleaver, counted from 0
 abbrev pub prime : Row → ℕ → ℕ
 prime row q = getD (row .primes) q 0
 

@@ -2,7 +2,7 @@
 -- Assumes nothing.
 use mathlib.Core.Path.{_≡_}
 use mathlib.Core.List.{List, [], _∷_, _++_}
-use Prim.Native.Nat.{ℕ, zero, suc, _+_, _≤_, zero-le}
+use Prim.Native.Nat.{ℕ, zero, suc, _+_, _-_, _≤_, zero-le}
 use native.Mathlib.Nat.{suc-add}
 use native.Mathlib.Omega.{arith}
 use lib.Dec.{T}
@@ -23,6 +23,16 @@ passed-on-split clocks s zero n =
 passed-on-split clocks s (suc m) n =
     let next : s + suc m ≡ suc s + m = omega arith in
     rw (suc-add m n, next) (omega (arith, passed-on-split clocks (suc s) m n))
+
+-- on one clock more, from the first on
+pub passed-on-next : (clocks : List (List ℕ)) (n : ℕ) → passedOn clocks 0 (n + 1) ≡ passedOn clocks 0 n + total (flagsAt clocks n)
+unfolding passedOn
+passed-on-next clocks n = let here : 0 + n ≡ n = omega arith in omega (arith, rw here at (passed-on-split clocks 0 n 1))
+
+pub passed-on-within : (clocks : List (List ℕ)) (m n : ℕ) → m ≤ n → passedOn clocks 0 m ≤ passedOn clocks 0 n
+passed-on-within clocks m n h =
+    let all : m + (n - m) ≡ n = omega arith in
+    omega (arith, rw all at (passed-on-split clocks 0 m (n - m)))
 
 -- X and what passes behind it
 pub total-x : (flags : List ℕ) → getD flags 0 0 ≡ 1 → total flags ≡ suc (total (drop 1 flags))

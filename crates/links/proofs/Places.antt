@@ -7,10 +7,7 @@ use native.Mathlib.Omega.{arith}
 use lib.ListN.{length, getD}
 use Rattle.links.specs.declared.Row.{Row}
 use Rattle.links.specs.Rows.{row, rows, noRow}
-
-pub count : length rows ≡ 22
-unfolding rows
-count = refl
+use Rattle.links.proofs.Search.{row-count}
 
 -- ---- the two tables of the code
 abbrev pub numbers : Row → List ℕ
@@ -29,7 +26,7 @@ entry f (r ∷ rs) zero h = refl
 entry f (r ∷ rs) (suc i) h = entry f rs i (omega arith)
 
 pub row-is : (i : ℕ) → i < 22 → joined (getD (map numbers rows) i []) (getD (map primes rows) i []) ≡ getD rows i noRow
-row-is i h = ap₂ joined (entry numbers rows i (omega (arith, count))) (entry primes rows i (omega (arith, count)))
+row-is i h = ap₂ joined (entry numbers rows i (omega (arith, row-count))) (entry primes rows i (omega (arith, row-count)))
 
 pub link-is : (i : ℕ) → i < 22 → getD (getD (map numbers rows) i []) 0 0 ≡ getD rows i noRow .link
-link-is i h = ap (λ (ns : List ℕ). getD ns 0 0) (entry numbers rows i (omega (arith, count)))
+link-is i h = ap (λ (ns : List ℕ). getD ns 0 0) (entry numbers rows i (omega (arith, row-count)))

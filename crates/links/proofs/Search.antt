@@ -49,6 +49,10 @@ place-link [] link h = absurd (omega arith)
 place-link (r ∷ rs) link h = linked r rs link (placeIn rs link) (eqb (r .link) link) refl (place-link rs link) h
 
 -- ---- offered links
+pub row-count : length rows ≡ 22
+unfolding rows
+row-count = refl
+
 pub offered-place : (link : ℕ) → offered link ≡ true → place link < length rows
 unfolding offered
 offered-place link e = ltb-true (place link) (length rows) e

@@ -16,7 +16,7 @@ longestBlock = 5616
 abbrev pub longestImage : ℕ
 longestImage = 12855
 
--- k is k1 times k2, k1 is even, neither is 0; the block has room for its check
+-- k is k1 times k2, k1 is even, neither is 0; the block has room for its check, and it and its image are no longer than the longest
 unfoldable pub goodSizes : Row → Bool
 goodSizes row =
     together
@@ -59,7 +59,7 @@ goodClock flags = together (eqb (length flags) 6 ∷ eqb (getD flags 0 0) 1 ∷ 
 unfoldable pub goodPattern : List (List ℕ) → Bool
 goodPattern clocks = together (ltb 0 (length clocks) ∷ leb (length clocks) 10 ∷ every goodClock clocks ∷ [])
 
--- a clock of a tail passes on nothing of one encoder, `of` its three flags, and of the other no bit more than twice
+-- a clock of a tail: of one encoder, whose three flags `of` takes, nothing passes, and of the other no bit more than twice
 unfoldable pub silent : (List ℕ → List ℕ) → List ℕ → Bool
 silent of flags = together (eqb (length flags) 6 ∷ every (atMost 2) flags ∷ every (atMost 0) (of flags) ∷ [])
 

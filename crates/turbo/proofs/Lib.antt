@@ -4,4 +4,5 @@ pub mod Interleaved
 pub mod Lengths
 pub mod Passing
 pub mod Permutation
+pub mod Steps
 pub mod Weave

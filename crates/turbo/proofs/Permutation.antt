@@ -2,44 +2,39 @@
 -- Assumes nothing.
 use mathlib.Core.Path.{_≡_, sym, ap, ap₂, subst, _∙_}
 use Prim.Native.Nat.{ℕ, _+_, _-_, _*_, _/_, _%_, _<_}
-use native.Mathlib.Nat.{mod-lt, mod-le, lt-of-le-of-lt, div-add-mod', div-div-eq-div-mul, mod-eq-sub-div-mul, div-lt-iff-lt-mul, add-comm, mul-assoc, zero-lt-suc}
+use native.Mathlib.Nat.{mod-lt, mod-le, lt-of-le-of-lt, div-add-mod', div-div-eq-div-mul, mod-eq-sub-div-mul, div-lt-iff-lt-mul, add-comm, zero-lt-suc}
 use native.Mathlib.Omega.{arith}
 use lib.Arith.{digits-lt, digits-div, digits-mod}
 use lib.Dec.{T}
 use Rattle.links.specs.declared.Row.{Row}
 use Rattle.links.specs.Good.{goodRow, inverse}
-use Rattle.links.proofs.Facts.{prime, sizes, inverses}
+use Rattle.links.proofs.Facts.{prime, sizes, block-is, inverses}
 use Rattle.turbo.specs.Interleaver.{position, InBlock}
 use Rattle.turbo.proofs.Affine.{affine, affineBack, back-affine, affine-back}
-
--- x + 1 - 1
-less-one : (x : ℕ) → x + 1 - 1 ≡ x
-less-one x = omega arith
+use Rattle.turbo.proofs.Steps.{position-steps}
 
 module _ (row : Row) where
   abbrev half : ℕ
   half = row .k1 / 2
 
   -- t, c and π(s) from the digits m, i, j of s - 1
-  abbrev tOf : ℕ → ℕ
-  tOf i = affine half 19 1 i
+  abbrev tFrom : ℕ → ℕ
+  tFrom i = affine half 19 1 i
 
-  abbrev cOf : ℕ → ℕ → ℕ → ℕ
-  cOf m t j = affine (row .k2) (prime row (t % 8)) (21 * m) j
+  abbrev cFrom : ℕ → ℕ → ℕ → ℕ
+  cFrom m t j = affine (row .k2) (prime row (t % 8)) (21 * m) j
 
   abbrev placeOf : ℕ → ℕ → ℕ → ℕ
   placeOf m t c = 2 * (t + c * half + 1) - m
 
   abbrev digitsPlace : ℕ → ℕ → ℕ → ℕ
-  digitsPlace m i j = placeOf m (tOf i) (cOf m (tOf i) j)
+  digitsPlace m i j = placeOf m (tFrom i) (cFrom m (tFrom i) j)
 
   position-is : (s : ℕ) → position row s ≡ digitsPlace ((s - 1) % 2) ((s - 1) / 2 / row .k2) ((s - 1) / 2 % row .k2)
-  unfolding position
   position-is s =
       let m = (s - 1) % 2 in
       let x = (s - 1) / 2 in
-      let i = (s - 1) / (2 * row .k2) in
-      ap (λ (q : ℕ). placeOf m (tOf i) (affine (row .k2) (prime row q) (21 * m) (x - i * row .k2))) (less-one (tOf i % 8))
+      position-steps row s
       ∙ ap (λ (i : ℕ). digitsPlace m i (x - i * row .k2)) (sym (div-div-eq-div-mul (s - 1) 2 (row .k2)))
       ∙ ap (digitsPlace m (x / row .k2)) (sym (mod-eq-sub-div-mul x (row .k2)))
 
@@ -47,14 +42,14 @@ module _ (row : Row) where
   abbrev clockFrom : ℕ → ℕ → ℕ → ℕ
   clockFrom m i j = 2 * (i * row .k2 + j) + m + 1
 
-  abbrev iBack : ℕ → ℕ
-  iBack t = affineBack half (inverse 19 half) 1 t
+  abbrev iFrom : ℕ → ℕ
+  iFrom t = affineBack half (inverse 19 half) 1 t
 
-  abbrev jBack : ℕ → ℕ → ℕ → ℕ
-  jBack m t c = affineBack (row .k2) (inverse (prime row (t % 8)) (row .k2)) (21 * m) c
+  abbrev jFrom : ℕ → ℕ → ℕ → ℕ
+  jFrom m t c = affineBack (row .k2) (inverse (prime row (t % 8)) (row .k2)) (21 * m) c
 
   abbrev digitsClock : ℕ → ℕ → ℕ → ℕ
-  digitsClock m t c = clockFrom m (iBack t) (jBack m t c)
+  digitsClock m t c = clockFrom m (iFrom t) (jFrom m t c)
 
 -- the clock at which the second encoder takes bit r
 unfoldable pub clockOf : Row → ℕ → ℕ
@@ -76,15 +71,12 @@ module _ (row : Row) (good : T (goodRow row)) where
   some-width : 0 < row .k2
   some-width = sizes row good .width
 
-  k-is : row .k ≡ 2 * (half row * row .k2)
-  k-is = sym (sizes row good .product) ∙ ap (λ (x : ℕ). x * row .k2) (sym (sizes row good .even)) ∙ mul-assoc 2 (half row) (row .k2)
-
   place-in : (m t c : ℕ) → m < 2 → t < half row → c < row .k2 → InBlock row (placeOf row m t c)
   place-in m t c hm ht hc =
       let below : c * half row + t < row .k2 * half row = digits-lt hc ht in
-      omega (arith, k-is)
+      omega (arith, block-is row good)
 
-  -- π(s) is a place of the block
+  -- π(s) is a place of the block, whatever s is
   pub position-in-range : (s : ℕ) → InBlock row (position row s)
   position-in-range s =
       subst (InBlock row) (sym (position-is row s))
@@ -93,7 +85,7 @@ module _ (row : Row) (good : T (goodRow row)) where
   clock-in : (m i j : ℕ) → m < 2 → i < half row → j < row .k2 → InBlock row (clockFrom row m i j)
   clock-in m i j hm hi hj =
       let below : i * row .k2 + j < half row * row .k2 = digits-lt hi hj in
-      omega (arith, k-is)
+      omega (arith, block-is row good)
 
   pub clock-in-range : (r : ℕ) → InBlock row (clockOf row r)
   unfolding clockOf
@@ -101,6 +93,19 @@ module _ (row : Row) (good : T (goodRow row)) where
 
   prime-inverse : (t : ℕ) → t < half row → prime row (t % 8) * inverse (prime row (t % 8)) (row .k2) % row .k2 ≡ 1 % row .k2
   prime-inverse t h = inverses row good .of-prime (t % 8) (mod-lt t (zero-lt-suc 7)) (lt-of-le-of-lt (mod-le t 8) h)
+
+  -- ---- i and t, j and c give each other
+  i-back : (i : ℕ) → i < half row → iFrom row (tFrom row i) ≡ i
+  i-back i h = back-affine (half row) 19 (inverse 19 (half row)) 1 some-half (inverses row good .of-19) i h
+
+  t-back : (t : ℕ) → t < half row → tFrom row (iFrom row t) ≡ t
+  t-back t h = affine-back (half row) 19 (inverse 19 (half row)) 1 some-half (inverses row good .of-19) t h
+
+  j-back : (m t j : ℕ) → t < half row → j < row .k2 → jFrom row m t (cFrom row m t j) ≡ j
+  j-back m t j ht h = back-affine (row .k2) (prime row (t % 8)) (inverse (prime row (t % 8)) (row .k2)) (21 * m) some-width (prime-inverse t ht) j h
+
+  c-back : (m t c : ℕ) → t < half row → c < row .k2 → cFrom row m t (jFrom row m t c) ≡ c
+  c-back m t c ht h = affine-back (row .k2) (prime row (t % 8)) (inverse (prime row (t % 8)) (row .k2)) (21 * m) some-width (prime-inverse t ht) c h
 
   -- ---- from a clock to its place and back
   clock-place : (m t c : ℕ) → m < 2 → t < half row → clockOf row (placeOf row m t c) ≡ digitsClock row m t c
@@ -113,17 +118,15 @@ module _ (row : Row) (good : T (goodRow row)) where
 
   clock-digits : (m i j : ℕ) → m < 2 → i < half row → j < row .k2 → clockOf row (digitsPlace row m i j) ≡ clockFrom row m i j
   clock-digits m i j hm hi hj =
-      let t = tOf row i in
+      let t = tFrom row i in
       let ht : t < half row = mod-lt (19 * i + 1) some-half in
-      clock-place m t (cOf row m t j) hm ht
-      ∙ ap₂ (clockFrom row m) (back-affine (half row) 19 (inverse 19 (half row)) 1 some-half (inverses row good .of-19) i hi)
-      (back-affine (row .k2) (prime row (t % 8)) (inverse (prime row (t % 8)) (row .k2)) (21 * m) some-width (prime-inverse t ht) j hj)
+      clock-place m t (cFrom row m t j) hm ht ∙ ap₂ (clockFrom row m) (i-back i hi) (j-back m t j ht hj)
 
   pub clock-position : (s : ℕ) → InBlock row s → clockOf row (position row s) ≡ s
   clock-position s h =
       let x = (s - 1) / 2 in
       ap (clockOf row) (position-is row s)
-      ∙ clock-digits ((s - 1) % 2) (x / row .k2) (x % row .k2) (omega arith) (div-lt-iff-lt-mul some-width .1 (omega (arith, k-is))) (mod-lt x some-width)
+      ∙ clock-digits ((s - 1) % 2) (x / row .k2) (x % row .k2) (omega arith) (div-lt-iff-lt-mul some-width .1 (omega (arith, block-is row good))) (mod-lt x some-width)
       ∙ ap (λ (y : ℕ). 2 * y + (s - 1) % 2 + 1) (div-add-mod' x (row .k2))
       ∙ omega arith
 
@@ -142,20 +145,20 @@ module _ (row : Row) (good : T (goodRow row)) where
 
   position-digits : (m t c : ℕ) → m < 2 → t < half row → c < row .k2 → position row (digitsClock row m t c) ≡ placeOf row m t c
   position-digits m t c hm ht hc =
-      let j = jBack row m t c in
-      position-clock-from m (iBack row t) j hm (mod-lt _ some-width)
-      ∙ ap (λ (t' : ℕ). placeOf row m t' (cOf row m t' j)) (affine-back (half row) 19 (inverse 19 (half row)) 1 some-half (inverses row good .of-19) t ht)
-      ∙ ap (placeOf row m t) (affine-back (row .k2) (prime row (t % 8)) (inverse (prime row (t % 8)) (row .k2)) (21 * m) some-width (prime-inverse t ht) c hc)
+      let j = jFrom row m t c in
+      position-clock-from m (iFrom row t) j hm (mod-lt _ some-width)
+      ∙ ap (λ (t' : ℕ). placeOf row m t' (cFrom row m t' j)) (t-back t ht)
+      ∙ ap (placeOf row m t) (c-back m t c ht hc)
 
   pub position-clock : (r : ℕ) → InBlock row r → position row (clockOf row r) ≡ r
   unfolding clockOf
   position-clock r h =
       let v = (r + r % 2) / 2 - 1 in
-      position-digits (r % 2) (v % half row) (v / half row) (omega arith) (mod-lt v some-half) (div-lt-iff-lt-mul some-half .1 (omega (arith, k-is)))
+      position-digits (r % 2) (v % half row) (v / half row) (omega arith) (mod-lt v some-half) (div-lt-iff-lt-mul some-half .1 (omega (arith, block-is row good)))
       ∙ ap (λ (x : ℕ). 2 * (x + 1) - r % 2) (add-comm (v % half row) (v / half row * half row) ∙ div-add-mod' v (half row))
       ∙ omega arith
 
-  -- ---- a permutation
+  -- ---- different clocks take different bits, and every bit is taken
   pub position-injective : (s r : ℕ) → InBlock row s → InBlock row r → position row s ≡ position row r → s ≡ r
   position-injective s r hs hr e = sym (clock-position s hs) ∙ ap (clockOf row) e ∙ clock-position r hr
 

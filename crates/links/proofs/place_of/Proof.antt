@@ -7,8 +7,8 @@ use native.Mathlib.Omega.{arith}
 use lib.ListN.{drop}
 use borrow.Author.Needs.{needs}
 use Rattle.links.specs.Rows.{rows, placeIn, place}
-use Rattle.links.proofs.Places.{numbers, link-is, count}
-use Rattle.links.proofs.Search.{place-here, place-further, place-end}
+use Rattle.links.proofs.Places.{numbers, link-is}
+use Rattle.links.proofs.Search.{row-count, place-here, place-further, place-end}
 use Rattle.links.proofs.place_of.Statement.{statement}
 use Rattle.links.proofs.place_of.Tie as tie
 
@@ -36,7 +36,7 @@ unfolding rows
 returns c =
     let at = c .before .before .before .loop in
     let link = c .before .before .before .before .args .link in
-    omega (arith, at .inv .2, place-here rows link (at .i) (omega (arith, count)) (sym (link-is (at .i) (omega arith)) ∙ c .if1 .taken))
+    omega (arith, at .inv .2, place-here rows link (at .i) (omega (arith, row-count)) (sym (link-is (at .i) (omega arith)) ∙ c .if1 .taken))
 
 add-i : tie.Need-add-i Inv-loop μ-loop
 add-i c = search needs
@@ -49,10 +49,10 @@ unfolding rows
 loop-again c =
     let at = c .before .before .before .loop in
     let link = c .before .before .before .before .args .link in
-    (search needs, at .inv .1, omega (arith, at .inv .2, place-further rows link (at .i) (omega (arith, count)) (λ e. c .if1 .left (link-is (at .i) (omega arith) ∙ e))))
+    (search needs, at .inv .1, omega (arith, at .inv .2, place-further rows link (at .i) (omega (arith, row-count)) (λ e. c .if1 .left (link-is (at .i) (omega arith) ∙ e))))
 
 returns-2 : tie.Need-returns-2 Inv-loop μ-loop
-returns-2 c = omega (arith, c .before .loop .inv .2, place-end rows (c .before .before .args .link) (c .before .loop .i) (omega (arith, count)))
+returns-2 c = omega (arith, c .before .loop .inv .2, place-end rows (c .before .before .args .link) (c .before .loop .i) (omega (arith, row-count)))
 
 pub place-of-spec : {M : Type 1} → statement M
 place-of-spec =
