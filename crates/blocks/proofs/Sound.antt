@@ -32,7 +32,7 @@ module _ (row : Row) (good : T (goodRow row)) where
   unfolding codingOf
   sound = record {
     short = omega (arith, sizes row good .block);
-    clocks = length-counts row good;
+    clocks = length-counts row;
     counted = parity-counts row good;
     sized = long-enough;
     covered = le-of-eq (sym (length-sequence (imageLength row) loaded));
