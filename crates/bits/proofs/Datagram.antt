@@ -4,18 +4,18 @@ use mathlib.Core.Path.{_≡_, refl, sym, ap, ap₂, _∙_}
 use mathlib.Core.Bool.{Bool, true, false, _&&_}
 use mathlib.Core.List.{List, [], _∷_, _++_, map, append-assoc}
 use Prim.Native.Nat.{ℕ, zero, suc, _+_, _-_, _*_, _/_, _%_, _^_, _≤_, _<_}
-use native.Mathlib.Nat.{zero-add, zero-div, pow-le-pow-right, zero-lt-suc}
+use native.Mathlib.Nat.{zero-add, zero-div, mod-lt, pow-le-pow-right, zero-lt-suc}
 use native.Mathlib.Omega.{arith}
 use borrow.Author.Tests.{ltb-true, lt-ltb}
 use lib.Dec.{ltb}
-use lib.ListN.{length, getD, take, drop, replicate, take-append-drop, length-append, length-replicate, length-drop, length-take, List·getD-append, replicate-append-replicate}
-use lib.Seq.{take-at, drop-at, take-append-le, take-take, length-take-le, getD-append-add}
+use lib.ListN.{length, getD, take, drop, replicate, take-append-drop, length-append, length-replicate, length-drop, length-take, List·getD-append, List·getD-eq-default, replicate-append-replicate}
+use lib.Seq.{take-at, drop-at, take-append-le, take-take, length-take-le, getD-append-add, drop-drop}
 use Rattle.lists.specs.All.{all}
-use Rattle.lists.proofs.Parts.{drop-take}
-use Rattle.bits.specs.Bits.{isOne}
+use Rattle.lists.proofs.Parts.{drop-take, map-take, map-drop}
+use Rattle.bits.specs.Bits.{isOne, byte}
 use Rattle.bits.specs.Row.{highFirst, number}
 use Rattle.bits.specs.Datagram.{allBytes, bitsOf, filled, bytesOf}
-use Rattle.bits.proofs.Bits.{both-true}
+use Rattle.bits.proofs.Bits.{byte-isOne, both-true}
 use Rattle.bits.proofs.Row.{length-highFirst, highFirst-at, number-highFirst, highFirst-number, number-lt}
 use Rattle.bits.proofs.Filled.{length-filled, filled-fits, take-filled}
 
@@ -40,6 +40,17 @@ bitsOf-at (b ∷ datagram) zero t h =
 bitsOf-at (b ∷ datagram) (suc j) t h =
     let place : suc j * 8 + t ≡ length (highFirst 8 b) + (j * 8 + t) = omega (arith, length-highFirst 8 b) in
     rw place (getD-append-add (highFirst 8 b) (bitsOf datagram) (j * 8 + t) false ∙ bitsOf-at datagram j t h)
+
+-- bit i as code picks it, and none behind the end
+pub bit-inside : (datagram : List ℕ) (i : ℕ) → getD datagram (i / 8) 0 / 2 ^ (7 - i % 8) % 2 ≡ byte (getD (bitsOf datagram) i false)
+bit-inside datagram i =
+    let digit = getD datagram (i / 8) 0 / 2 ^ (7 - i % 8) in
+    let place : i / 8 * 8 + i % 8 ≡ i = omega arith in
+    sym (byte-isOne (digit % 2) (omega (arith, mod-lt digit {m = 2} (zero-lt-suc 1))))
+    ∙ ap byte (sym (bitsOf-at datagram (i / 8) (i % 8) (omega arith)) ∙ ap (λ (k : ℕ). getD (bitsOf datagram) k false) place)
+
+pub bit-behind : (datagram : List ℕ) (i : ℕ) → length datagram ≤ i / 8 → 0 ≡ byte (getD (bitsOf datagram) i false)
+bit-behind datagram i h = ap byte (sym (List·getD-eq-default (bitsOf datagram) false (omega (arith, length-bitsOf datagram))))
 
 zero-bytes : (n : ℕ) → bitsOf (replicate n 0) ≡ replicate (n * 8) false
 unfolding bitsOf highFirst
@@ -81,13 +92,30 @@ pub bytesOf-filled : (m n : ℕ) (row : List Bool) → m * 8 ≤ n → bytesOf m
 bytesOf-filled m n row h = sym (bytesOf-take m (filled n row)) ∙ ap (bytesOf m) (take-filled (m * 8) n row h)
 
 -- what they make are bytes
-byte-small : (row : List Bool) → number (take 8 row) < 256
+pub byte-small : (row : List Bool) → number (take 8 row) < 256
 byte-small row = omega (arith, number-lt (take 8 row), pow-le-pow-right {n = 2} (zero-lt-suc 1) {i = length (take 8 row)} {j = 8} (simp length-take (omega arith)))
 
 pub bytesOf-bytes : (m : ℕ) (row : List Bool) → allBytes (bytesOf m row) ≡ true
 unfolding bytesOf all
 bytesOf-bytes zero row = refl
 bytesOf-bytes (suc m) row = rw (lt-ltb (number (take 8 row)) 256 (byte-small row)) (bytesOf-bytes m (drop 8 row))
+
+-- byte by byte: what is left to lay at j begins with the byte that the row's next eight bits make
+pub bytes-more : (m j : ℕ) (row : List ℕ) → j < m
+    → bytesOf (m - j) (map isOne (drop (j * 8) row)) ≡ number (take 8 (map isOne (drop (j * 8) row))) ∷ bytesOf (m - (j + 1)) (map isOne (drop ((j + 1) * 8) row))
+unfolding bytesOf
+bytes-more m j row h =
+    let left : m - j ≡ suc (m - (j + 1)) = omega arith in
+    let next : j * 8 + 8 ≡ (j + 1) * 8 = omega arith in
+    rw (left, ← next, ← drop-drop 8 (j * 8) row, map-drop isOne 8 (drop (j * 8) row))
+
+pub bytes-done : (m j : ℕ) (row : List ℕ) → m ≤ j → bytesOf (m - j) (map isOne (drop (j * 8) row)) ≡ []
+unfolding bytesOf
+bytes-done m j row h = let none : m - j ≡ 0 = omega arith in rw none
+
+-- the eight bits of a part that is lent
+pub part-bits : (at : ℕ) (row : List ℕ) → map isOne (take (at + 8 - at) (drop at row)) ≡ take 8 (map isOne (drop at row))
+part-bits at row = let eight : at + 8 - at ≡ 8 = omega arith in rw eight (map-take isOne 8 (drop at row))
 
 -- ---- there and back
 pub bytesOf-bitsOf : (datagram : List ℕ) → allBytes datagram ≡ true → bytesOf (length datagram) (bitsOf datagram) ≡ datagram

@@ -1,13 +1,15 @@
-// Bits one to a byte (document 01, "What the module does"): the test that a byte is a bit, 32 bits as a number and back, and
-// the number of places where two words differ.
+// Bits one to a byte (document 01, "What the module does"): the test that a byte is a bit, bits as a number and back, a datagram
+// as bits and back, and the number of places where two words differ.
 ghost use mathlib.Core.Path.{_≡_};
 ghost use mathlib.Core.List.{map};
-ghost use Prim.Native.Nat.{_+_, _≤_};
+ghost use mathlib.Core.Bool.{false};
+ghost use Prim.Native.Nat.{_+_, _*_, _≤_};
 ghost use lib.Bits.{bitXor};
 ghost use lib.Count.{ones};
-ghost use lib.ListN.{length};
+ghost use lib.ListN.{length, getD};
 ghost use Rattle.lists.specs.Over.{over};
 ghost use Rattle.bits.specs.Bits.{allBits, byte, isOne};
+ghost use Rattle.bits.specs.Datagram.{bitsOf, filled, bytesOf};
 ghost use Rattle.bits.specs.Row.{highFirst, number};
 
 // Whether every byte is 0 or 1.
@@ -29,13 +31,13 @@ fn bit_in(held: u8) -> u32
     if held == 1 { 1 } else { 0 }
 }
 
-// The number that a row of 32 bits makes, the first the highest.
+// The number that a row of up to 32 bits makes, the first the highest.
 pub fn number_of(row: &[u8]) -> u32
-    requires { ⌜ length (now row) ≡ 32 ⌝ }
+    requires { ⌜ length (now row) ≤ 32 ⌝ }
     ensures { λ r. ⌜ r ≡ number (map isOne (now (row .entry))) ⌝ }
 {
     let mut word: u32 = 0;
-    for i in 0..32 {
+    for i in 0..row.len() {
         word = word * 2 + bit_in(row[i]);
     }
     word
@@ -48,6 +50,39 @@ pub fn lay_row(word: u32, out: &mut [u8], at: usize)
 {
     for i in 0..32 {
         out[at + i] = ((word >> (31 - i)) % 2) as u8;
+    }
+}
+
+// Bit i of a datagram, 0 behind its end.
+fn bit_at(datagram: &[u8], i: usize) -> u8
+    ensures { λ r. ⌜ r ≡ byte (getD (bitsOf (now (datagram .entry))) i false) ⌝ }
+{
+    let at = i / 8;
+    if at < datagram.len() {
+        (datagram[at] >> (7 - i % 8)) % 2
+    } else {
+        0
+    }
+}
+
+// Lays the first n bits of a datagram, zero bits behind its end, at the start of a row.
+pub fn unpack(datagram: &[u8], n: usize, row: &mut [u8])
+    requires { ⌜ n ≤ length (now row) ⌝ }
+    ensures { λ _. ⌜ now (row .exit) ≡ over 0 (map byte (filled n (bitsOf (now (datagram .entry))))) (now (row .entry)) ⌝ }
+{
+    for i in 0..n {
+        row[i] = bit_at(datagram, i);
+    }
+}
+
+// Lays the bytes that a row begins with, `count` of them, at the start of a buffer.
+pub fn pack(row: &[u8], count: usize, out: &mut [u8])
+    requires { ⌜ (count * 8 ≤ length (now row)) × (count ≤ length (now out)) ⌝ }
+    ensures { λ _. ⌜ now (out .exit) ≡ over 0 (bytesOf count (map isOne (now (row .entry)))) (now (out .entry)) ⌝ }
+{
+    for j in 0..count {
+        let at = j * 8;
+        out[j] = number_of(&row[at..at + 8]) as u8;
     }
 }
 

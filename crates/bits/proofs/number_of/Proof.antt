@@ -13,16 +13,17 @@ use Rattle.bits.proofs.number_of.Statement.{statement}
 use Rattle.bits.proofs.number_of.Tie as tie
 
 abbrev Inv-loop : tie.InvT-loop
-Inv-loop row word₀ i₀ word i = (i ≤ 32) × (word < 2 ^ i) × (numberOn word (map isOne (drop i row)) ≡ number (map isOne row))
+Inv-loop row word₀ i₀ i-end word i =
+    (i ≤ i-end) × (i-end ≡ length row) × (word < 2 ^ i) × (numberOn word (map isOne (drop i row)) ≡ number (map isOne row))
 
 abbrev μ-loop : tie.MeasureT-loop
-μ-loop row word₀ i₀ word i = 32 - i
+μ-loop row word₀ i₀ i-end word i = i-end - i
 
 loop-holds : tie.Need-loop-holds Inv-loop μ-loop
-loop-holds c = (search needs, omega arith, refl)
+loop-holds c = (search needs, search needs, omega arith, refl)
 
 mul-word : tie.Need-mul-word Inv-loop μ-loop
-mul-word c = record { fits = omega (arith, below-32 (c .before .loop .word) (c .before .loop .i) (omega arith) (c .before .loop .inv .1)) }
+mul-word c = record { fits = omega (arith, below-32 (c .before .loop .word) (c .before .loop .i) (omega arith) (c .before .loop .inv .2)) }
 
 shared-slice-read-bit-in : tie.Need-shared-slice-read-bit-in Inv-loop μ-loop
 shared-slice-read-bit-in c = search needs
@@ -34,7 +35,7 @@ add-word : tie.Need-add-word Inv-loop μ-loop
 add-word c =
     let at = c .before .before .before .loop in
     let a = c .before .before .before .before .before .args in
-    record { fits = omega (arith, below-32 (at .word) (at .i) (omega arith) (at .inv .1), c .bit-in .ensures, byte-lt (isOne (getD (a .row .now) (at .i) 0))) }
+    record { fits = omega (arith, below-32 (at .word) (at .i) (omega arith) (at .inv .2), c .bit-in .ensures, byte-lt (isOne (getD (a .row .now) (at .i) 0))) }
 
 add-i : tie.Need-add-i Inv-loop μ-loop
 add-i c = search needs
@@ -47,12 +48,13 @@ loop-again c =
     let at = c .before .before .before .loop in
     let a = c .before .before .before .before .before .args in (
       search needs,
-      rw (c .bit-in .ensures) (more-fits (at .word) (at .i) (isOne (getD (a .row .now) (at .i) 0)) (at .inv .1)),
-      rw (c .bit-in .ensures) (sym (number-more (a .row .now) (at .word) (at .i) (omega arith)) ∙ at .inv .2),
+      search needs,
+      rw (c .bit-in .ensures) (more-fits (at .word) (at .i) (isOne (getD (a .row .now) (at .i) 0)) (at .inv .2)),
+      rw (c .bit-in .ensures) (sym (number-more (a .row .now) (at .word) (at .i) (omega arith)) ∙ at .inv .3),
     )
 
 returns : tie.Need-returns Inv-loop μ-loop
-returns c = sym (number-done (c .before .before .before .args .row .now) (c .before .loop .word) (c .before .loop .i) (omega arith)) ∙ c .before .loop .inv .2
+returns c = sym (number-done (c .before .before .before .args .row .now) (c .before .loop .word) (c .before .loop .i) (omega arith)) ∙ c .before .loop .inv .3
 
 pub number-of-spec : {M : Type 1} → statement M
 number-of-spec =
