@@ -7,6 +7,7 @@ use native.Mathlib.Omega.{arith}
 use lib.ListN.{length, getD}
 use Rattle.links.specs.declared.Row.{Row}
 use Rattle.links.specs.Rows.{row, rows, noRow}
+use Rattle.links.specs.Sizes.{imageLength}
 use Rattle.links.proofs.Search.{row-count}
 
 -- ---- the two tables of the code
@@ -20,13 +21,17 @@ primes r = r .primes
 abbrev pub joined : List ℕ → List ℕ → Row
 joined ns ps = row (getD ns 0 0) (getD ns 1 0) (getD ns 2 0) (getD ns 3 0) ps (getD ns 4 0) (getD ns 5 0)
 
-entry : (f : Row → List ℕ) (rs : List Row) (i : ℕ) → i < length rs → getD (map f rs) i [] ≡ f (getD rs i noRow)
-entry f [] i h = absurd (omega arith)
-entry f (r ∷ rs) zero h = refl
-entry f (r ∷ rs) (suc i) h = entry f rs i (omega arith)
+entry : {B : Type 0} (f : Row → B) (none : B) (rs : List Row) (i : ℕ) → i < length rs → getD (map f rs) i none ≡ f (getD rs i noRow)
+entry f none [] i h = absurd (omega arith)
+entry f none (r ∷ rs) zero h = refl
+entry f none (r ∷ rs) (suc i) h = entry f none rs i (omega arith)
 
 pub row-is : (i : ℕ) → i < 22 → joined (getD (map numbers rows) i []) (getD (map primes rows) i []) ≡ getD rows i noRow
-row-is i h = ap₂ joined (entry numbers rows i (omega (arith, row-count))) (entry primes rows i (omega (arith, row-count)))
+row-is i h = ap₂ joined (entry numbers [] rows i (omega (arith, row-count))) (entry primes [] rows i (omega (arith, row-count)))
 
 pub link-is : (i : ℕ) → i < 22 → getD (getD (map numbers rows) i []) 0 0 ≡ getD rows i noRow .link
-link-is i h = ap (λ (ns : List ℕ). getD ns 0 0) (entry numbers rows i (omega (arith, row-count)))
+link-is i h = ap (λ (ns : List ℕ). getD ns 0 0) (entry numbers [] rows i (omega (arith, row-count)))
+
+-- ---- and the list of N
+pub image-length-is : (i : ℕ) → i < 22 → getD (map imageLength rows) i 0 ≡ imageLength (getD rows i noRow)
+image-length-is i h = entry imageLength 0 rows i (omega (arith, row-count))

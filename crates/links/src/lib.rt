@@ -5,9 +5,10 @@ pub use flags::clocks;
 pub use flags::pattern;
 pub use flags::tail;
 ghost use mathlib.Core.Path.{_≡_};
-ghost use Prim.Native.Nat.{_<_};
+ghost use Prim.Native.Nat.{_<_, _≤_};
 ghost use lib.ListN.{getD};
 ghost use Rattle.links.specs.Rows.{rows, noRow, place};
+ghost use Rattle.links.specs.Sizes.{bytesHeld, imageLength};
 
 // A row of Table 4. A pattern or tail is named by its printed name as a hexadecimal number: 0x7a is pattern 7a.
 pub struct Row {
@@ -72,6 +73,32 @@ const PRIMES: [[u32; 8]; 22] = [
     [59, 37, 157, 167, 239, 83, 163, 29],
 ];
 
+// N of the same rows, the bits of an image: what the clocks and the tail pass on, proved to be that sum.
+const IMAGE_LENGTHS: [usize; 22] = [
+    394,
+    906,
+    1418,
+    396,
+    908,
+    1420,
+    874,
+    1308,
+    1740,
+    1804,
+    2700,
+    3596,
+    3754,
+    5388,
+    7500,
+    402,
+    1112,
+    4692,
+    6828,
+    9562,
+    1269,
+    12855,
+];
+
 // The row at a place of the table.
 pub fn row_at(place: usize) -> Row
     requires { ⌜ place < 22 ⌝ }
@@ -100,4 +127,20 @@ pub fn place_of(link: u32) -> usize
         }
     }
     22
+}
+
+// N of the row at a place of the table.
+pub fn image_length_at(place: usize) -> usize
+    requires { ⌜ place < 22 ⌝ }
+    ensures { λ r. ⌜ r ≡ imageLength (getD rows place noRow) ⌝ }
+{
+    IMAGE_LENGTHS[place]
+}
+
+// The whole bytes that a link holds.
+pub fn bytes_held(row: Row) -> usize
+    requires { ⌜ 32 ≤ row .k ⌝ }
+    ensures { λ r. ⌜ r ≡ bytesHeld row ⌝ }
+{
+    ((row.k - 32) / 8) as usize
 }

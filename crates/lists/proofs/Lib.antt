@@ -2,5 +2,4 @@ pub mod All
 pub mod Every
 pub mod Line
 pub mod Over
-pub mod Part
 pub mod Parts

@@ -3,9 +3,9 @@
 use mathlib.Core.Path.{_≡_, refl, ap, _∙_}
 use mathlib.Core.List.{List, [], _∷_, map}
 use Prim.Native.Nat.{ℕ, zero, suc, _-_, _≤_}
-use native.Mathlib.Nat.{sub-zero, zero-sub, suc-sub-suc, le-of-suc-le-suc, not-suc-le-zero}
-use lib.ListN.{getD, take, drop, replicate}
-use lib.Seq.{take-nil}
+use native.Mathlib.Nat.{sub-zero, zero-sub, suc-sub-suc, le-of-suc-le-suc, not-suc-le-zero, le-of-eq}
+use lib.ListN.{length, getD, take, drop, replicate, length-drop}
+use lib.Seq.{take-all, take-nil}
 
 module _ {A : Type 0} where
   pub drop-take : (m n : ℕ) (l : List A) → drop m (take n l) ≡ take (n - m) (drop m l)
@@ -34,3 +34,7 @@ module _ {A B : Type 0} (f : A → B) where
   map-drop zero l = refl
   map-drop (suc n) [] = refl
   map-drop (suc n) (x ∷ l) = map-drop n l
+
+-- the part that code lends from some place on, with its count of what is left, is all that is left
+pub part-rest : (p : ℕ) (s : List ℕ) → take (length s - p) (drop p s) ≡ drop p s
+part-rest p s = take-all (length s - p) (drop p s) (le-of-eq (length-drop p s))

@@ -74,7 +74,7 @@ same-length c = c .before .loop .inv .1 .long
 returns : tie.Need-returns Inv-loop μ-loop
 returns c =
     let a = c .before .before .before .before .args in
-    done (c .before .loop .inv .1) (bytes-done (a .count) (c .before .loop .j) (a .row .now) (omega arith))
+    done (c .before .loop .inv .1) (bytes-done (a .count) (c .before .loop .j) (a .row .now) (omega arith)) .1
 
 pub pack-spec : {M : Type 1} → statement M
 pack-spec =

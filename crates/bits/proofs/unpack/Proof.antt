@@ -51,7 +51,7 @@ same-length c = c .before .loop .inv .1 .long
 returns : tie.Need-returns Inv-loop μ-loop
 returns c =
     let a = c .before .before .before .before .args in
-    done (c .before .loop .inv .1) (filled-done (a .n) (c .before .loop .i) (bitsOf (a .datagram .now)) (omega arith))
+    done (c .before .loop .inv .1) (filled-done (a .n) (c .before .loop .i) (bitsOf (a .datagram .now)) (omega arith)) .1
 
 pub unpack-spec : {M : Type 1} → statement M
 unpack-spec =

@@ -2,7 +2,7 @@
 use mathlib.Core.Path.{sym, ap, _∙_}
 use native.Mathlib.Omega.{arith}
 use borrow.Author.Needs.{needs}
-use Rattle.lists.proofs.Part.{part-rest}
+use Rattle.lists.proofs.Parts.{part-rest}
 use Rattle.messages.specs.Step.{stepAt}
 use Rattle.messages.proofs.Ways.{step-past, step-within}
 use Rattle.messages.proofs.step_message.Statement.{statement}
