@@ -1,3 +1,4 @@
 pub mod Blocks
 pub mod Calls
+pub mod Composed
 pub mod Sound

@@ -27,13 +27,13 @@ over-set at v old h = set-split old at v h ∙ sym (append-snoc (take at old) v 
 front : (at : ℕ) (p old : List ℕ) → Room at p old → length (take at old ++ p) ≡ at + length p
 front at p old h = length-append (take at old) p ∙ ap (λ (n : ℕ). n + length p) (length-take-le at old (omega arith))
 
-over-length : (at : ℕ) (p old : List ℕ) → Room at p old → length (over at p old) ≡ length old
+pub over-length : (at : ℕ) (p old : List ℕ) → Room at p old → length (over at p old) ≡ length old
 unfolding over
 over-length at p old h =
     omega (arith, length-append (take at old ++ p) (drop (at + length p) old), front at p old h, length-drop (at + length p) old)
 
 -- one piece after another is both as one
-over-over : (at : ℕ) (p q old : List ℕ) → Room at p old → over (at + length p) q (over at p old) ≡ over at (p ++ q) old
+pub over-over : (at : ℕ) (p q old : List ℕ) → Room at p old → over (at + length p) q (over at p old) ≡ over at (p ++ q) old
 unfolding over
 over-over at p q old h =
     let n = at + length p in
