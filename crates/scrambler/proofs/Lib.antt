@@ -1,0 +1,4 @@
+pub mod Mixed
+pub mod Register
+pub mod Running
+pub mod Sequence
