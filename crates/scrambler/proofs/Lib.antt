@@ -1,3 +1,4 @@
+pub mod Calls
 pub mod Mixed
 pub mod Register
 pub mod Running

@@ -1,6 +1,6 @@
--- Bytes with a key added, where they are bits; and byte by byte.
+-- Bytes with a key added: where they are bits, and byte by byte.
 -- Assumes nothing.
-use mathlib.Core.Path.{_≡_, refl, sym, ap, ap₂, _∙_}
+use mathlib.Core.Path.{_≡_, refl, ap₂}
 use mathlib.Core.Bool.{Bool, true, false, xor}
 use mathlib.Core.List.{List, [], _∷_, _++_, map}
 use Prim.Native.Nat.{ℕ, zero, suc, _+_, _<_}
@@ -10,8 +10,7 @@ use lib.ListN.{length, getD, drop}
 use lib.Seq.{drop-cons}
 use Rattle.bits.specs.Bits.{byte}
 use Rattle.bits.specs.Xor.{_⊕_, xorRows}
-use Rattle.scrambler.specs.Scrambler.{cells, sequence, scrambledBy, mixed, Scrambles}
-use Rattle.scrambler.proofs.Sequence.{length-sequence}
+use Rattle.scrambler.specs.Scrambler.{mixed}
 
 byte-⊕ : (x k : Bool) → byte x ⊕ byte k ≡ byte (xor k x)
 unfolding _⊕_ xor
@@ -20,20 +19,12 @@ byte-⊕ true false = refl
 byte-⊕ false true = refl
 byte-⊕ false false = refl
 
-mixed-row : (key row : List Bool) (rest : List ℕ) → length row ≡ length key → mixed key (map byte row ++ rest) ≡ map byte (xorRows key row) ++ rest
+pub mixed-row : (key row : List Bool) (rest : List ℕ) → length row ≡ length key → mixed key (map byte row ++ rest) ≡ map byte (xorRows key row) ++ rest
 unfolding mixed xorRows
 mixed-row [] [] rest e = refl
 mixed-row [] (x ∷ row) rest e = absurd (omega arith)
 mixed-row (k ∷ key) [] rest e = absurd (omega arith)
 mixed-row (k ∷ key) (x ∷ row) rest e = ap₂ _∷_ (byte-⊕ x k) (mixed-row key row rest (omega arith))
-
--- a row at the start of a buffer is scrambled, and what stands behind it stays
-pub scrambles-row : {state n register : ℕ} {old new : List ℕ} (row : List Bool) (rest : List ℕ) → Scrambles state n old new register
-    → old ≡ map byte row ++ rest → length row ≡ n → new ≡ map byte (scrambledBy (cells state) row) ++ rest
-scrambles-row {state} {n} row rest s e l =
-    s .bytes
-    ∙ ap (mixed (sequence n (cells state))) e
-    ∙ rw l (mixed-row (sequence n (cells state)) row rest (l ∙ sym (length-sequence n (cells state))))
 
 -- ---- byte by byte
 pub mixed-more : (key : List Bool) (k : Bool) (bytes : List ℕ) (i : ℕ) → i < length bytes
