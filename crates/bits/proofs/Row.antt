@@ -8,7 +8,8 @@ use native.Mathlib.Nat.{pow-suc, pow-succ', one-le-pow, add-mul, mul-assoc, pow-
 use native.Mathlib.Numerals.{add-one}
 use native.Mathlib.Omega.{arith}
 use lib.Arith.{digits-lt, digits-div, mod-mul}
-use lib.ListN.{length, getD, drop, drop-of-length-le}
+use lib.ListN.{length, getD, take, drop, drop-of-length-le}
+use lib.Pow.{shr-shr}
 use lib.Seq.{drop-cons}
 use Rattle.bits.specs.Bits.{isOne, byte}
 use Rattle.bits.specs.Row.{highFirst, numberOn, number}
@@ -24,6 +25,14 @@ unfolding highFirst
 highFirst-at zero w i h = absurd (omega arith)
 highFirst-at (suc n) w zero h = rw (suc-sub-suc, sub-zero)
 highFirst-at (suc n) w (suc i) h = rw suc-sub-suc (highFirst-at n w i (omega arith))
+
+-- the lowest digit left out
+pub take-highFirst : (n w : ℕ) → take n (highFirst (suc n) w) ≡ highFirst n (w / 2)
+unfolding highFirst
+take-highFirst zero w = refl
+take-highFirst (suc n) w =
+    let half : w / 2 ^ suc n ≡ w / 2 / 2 ^ n = ap (λ (m : ℕ). w / 2 ^ m) (omega arith) ∙ sym (shr-shr w 1 n) in
+    ap₂ _∷_ (ap (λ (x : ℕ). isOne (x % 2)) half) (take-highFirst n w)
 
 -- ---- the number of a row of bytes, byte by byte
 pub number-more : (row : List ℕ) (w i : ℕ) → i < length row
@@ -88,6 +97,11 @@ on-split w (b ∷ row) =
     let p = 2 ^ length row in
     on-split (w * 2 + byte b) row
     ∙ rw (pow-succ' 2 (length row), zero-add, on-split (byte b) row) (omega (arith, add-mul (w * 2) (byte b) p, mul-assoc w 2 p))
+
+-- the first bit of a row is the highest digit
+pub number-first : (b : Bool) (row : List Bool) → number (b ∷ row) ≡ byte b * 2 ^ length row + number row
+unfolding numberOn
+number-first b row = rw zero-add (on-split (byte b) row)
 
 on-bits : (w : ℕ) (row : List Bool) → highFirst (length row) (numberOn w row) ≡ row
 unfolding numberOn highFirst

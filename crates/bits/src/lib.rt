@@ -58,11 +58,10 @@ fn bit_at(datagram: &[u8], i: usize) -> u8
     ensures { λ r. ⌜ r ≡ byte (getD (bitsOf (now (datagram .entry))) i false) ⌝ }
 {
     let at = i / 8;
-    if at < datagram.len() {
-        (datagram[at] >> (7 - i % 8)) % 2
-    } else {
-        0
+    if at >= datagram.len() {
+        return 0;
     }
+    (datagram[at] >> (7 - i % 8)) % 2
 }
 
 // Lays the first n bits of a datagram, zero bits behind its end, at the start of a row.

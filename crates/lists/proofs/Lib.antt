@@ -1,4 +1,5 @@
 pub mod All
+pub mod Edit
 pub mod Every
 pub mod Line
 pub mod Over

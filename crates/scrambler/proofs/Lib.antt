@@ -1,1 +1,5 @@
+pub mod Calls
+pub mod Mixed
+pub mod Register
+pub mod Running
 pub mod Sequence

@@ -46,9 +46,8 @@ number-of-requires c κs = search needs
 
 cast-out : tie.Need-cast-out Inv-loop μ-loop
 cast-out c =
-    let a = c .before .before .before .before .before .before .args in
-    let at = c .before .before .before .loop .j * 8 in
-    record { fits = rw (c .number-of .ensures, part-bits at (a .row .now)) (byte-small (map isOne (drop at (a .row .now)))) }
+    let row = c .before .before .before .before .before .before .args .row .now in
+    record { fits = rw (c .number-of .ensures, part-bits) (byte-small (map isOne (drop (c .before .before .before .loop .j * 8) row))) }
 
 slice-write-out : tie.Need-slice-write-out Inv-loop μ-loop
 slice-write-out c =
@@ -66,7 +65,7 @@ loop-again : tie.Need-loop-again Inv-loop μ-loop
 loop-again c =
     let a = c .before .before .before .before .before .before .args in
     let at = c .before .before .before .loop in
-    (search needs, rw (c .number-of .ensures, part-bits (at .j * 8) (a .row .now)) (more _ _ (at .inv .1) (bytes-more (a .count) (at .j) (a .row .now) (omega arith))))
+    (search needs, rw (c .number-of .ensures, part-bits) (more _ _ (at .inv .1) (bytes-more (a .count) (at .j) (a .row .now) (omega arith))))
 
 same-length : tie.Need-same-length Inv-loop μ-loop
 same-length c = c .before .loop .inv .1 .long
