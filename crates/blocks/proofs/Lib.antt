@@ -1,4 +1,7 @@
 pub mod Blocks
 pub mod Calls
 pub mod Composed
+pub mod Exact
 pub mod Sound
+pub mod WaysOfReading
+pub mod WaysOfWriting
