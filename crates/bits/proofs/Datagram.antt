@@ -2,7 +2,7 @@
 -- Assumes nothing.
 use mathlib.Core.Path.{_≡_, refl, sym, ap, ap₂, _∙_}
 use mathlib.Core.Bool.{Bool, true, false}
-use mathlib.Core.List.{List, [], _∷_, _++_, map, append-assoc}
+use mathlib.Core.List.{List, [], _∷_, _++_, map, map-append, append-assoc}
 use Prim.Native.Nat.{ℕ, zero, suc, _+_, _-_, _*_, _/_, _%_, _^_, _≤_, _<_}
 use native.Mathlib.Nat.{zero-add, zero-div, mod-lt, pow-le-pow-right, zero-lt-suc}
 use native.Mathlib.Omega.{arith}
@@ -15,7 +15,7 @@ use Rattle.lists.proofs.Parts.{drop-take, map-take, map-drop}
 use Rattle.bits.specs.Bits.{isOne, byte}
 use Rattle.bits.specs.Row.{highFirst, number}
 use Rattle.bits.specs.Datagram.{allBytes, bitsOf, filled, bytesOf}
-use Rattle.bits.proofs.Bits.{byte-isOne, both-true}
+use Rattle.bits.proofs.Bits.{byte-isOne, bits-bytes, both-true}
 use Rattle.bits.proofs.Row.{length-highFirst, highFirst-at, number-highFirst, highFirst-number, number-lt}
 use Rattle.bits.proofs.Filled.{filled-fits, take-filled, drop-filled}
 
@@ -91,6 +91,10 @@ bytesOf-take (suc m) row =
 
 pub bytesOf-append : (m : ℕ) (row rest : List Bool) → m * 8 ≤ length row → bytesOf m (row ++ rest) ≡ bytesOf m row
 bytesOf-append m row rest h = sym (bytesOf-take m (row ++ rest)) ∙ ap (bytesOf m) (take-append-le (m * 8) row rest h) ∙ bytesOf-take m row
+
+-- a row at the start of a buffer
+pub bytesOf-row : (m : ℕ) (row : List Bool) (rest : List ℕ) → m * 8 ≤ length row → bytesOf m (map isOne (map byte row ++ rest)) ≡ bytesOf m row
+bytesOf-row m row rest h = rw (map-append isOne (map byte row) rest, bits-bytes row) (bytesOf-append m row (map isOne rest) h)
 
 pub bytesOf-filled : (m n : ℕ) (row : List Bool) → m * 8 ≤ n → bytesOf m (filled n row) ≡ bytesOf m (filled (m * 8) row)
 bytesOf-filled m n row h = sym (bytesOf-take m (filled n row)) ∙ ap (bytesOf m) (take-filled (m * 8) n row h)
