@@ -37,30 +37,33 @@ pub reading-goes : (link : ℕ) (bits : List ℕ) (room : ℕ) → Reading link 
 unfolding answered
 reading-goes link bits room = decided (offered link) (eqb (length bits) size) (ltb room held) (allBits bits) refl refl refl refl
   where
-  held : ℕ
-  held = bytesHeld (rowOf link)
-  size : ℕ
-  size = imageLength (rowOf link)
-  tried : (o : offered link ≡ true) → length bits ≡ imageLength (rowOf link) → bytesHeld (rowOf link) ≤ room → allBits bits ≡ true
-      → (found : Option (List Bool)) → readByTrying (codingOf (rowOf link)) (map isOne bits) ≡ found → Reading link bits room
-  tried o s r a none e =
-      none-near o s r a (none-read (rowOf link) (good link o) (map isOne bits) (length-map bits isOne ∙ s) e)
-      (read-tried link bits room o s r a ∙ ap (answered (rowOf link) (map isOne bits)) e)
-  tried o s r a (some u) e =
-      reads o s r a u (read-near (rowOf link) (good link o) (map isOne bits) (length-map bits isOne ∙ s) u e)
-      (read-tried link bits room o s r a ∙ ap (answered (rowOf link) (map isOne bits)) e)
-  decided : (o sized short all : Bool) → offered link ≡ o → eqb (length bits) size ≡ sized → ltb room held ≡ short → allBits bits ≡ all → Reading link bits room
-  decided false sized short all o s r a = unoffered o (read-unoffered link bits room o)
-  decided true false short all o s r a =
-      let h = eqb-false (length bits) size s in
-      no-length o h (read-length link bits room o h)
-  decided true true true all o s r a =
-      let l = eqb-true (length bits) size s in
-      let h = ltb-true room held r in
-      too-short o l h (read-short link bits room o l h)
-  decided true true false false o s r a =
-      let l = eqb-true (length bits) size s in
-      let h = ltb-false room held r in
-      no-bits o l h a (read-no-bit link bits room o l h a)
-  decided true true false true o s r a =
-      tried o (eqb-true (length bits) size s) (ltb-false room held r) a (readByTrying (codingOf (rowOf link)) (map isOne bits)) refl
+    held : ℕ
+    held = bytesHeld (rowOf link)
+
+    size : ℕ
+    size = imageLength (rowOf link)
+
+    tried : (o : offered link ≡ true) → length bits ≡ imageLength (rowOf link) → bytesHeld (rowOf link) ≤ room → allBits bits ≡ true
+        → (found : Option (List Bool)) → readByTrying (codingOf (rowOf link)) (map isOne bits) ≡ found → Reading link bits room
+    tried o s r a none e =
+        none-near o s r a (none-read (rowOf link) (good link o) (map isOne bits) (length-map bits isOne ∙ s) e)
+        (read-tried link bits room o s r a ∙ ap (answered (rowOf link) (map isOne bits)) e)
+    tried o s r a (some u) e =
+        reads o s r a u (read-near (rowOf link) (good link o) (map isOne bits) (length-map bits isOne ∙ s) u e)
+        (read-tried link bits room o s r a ∙ ap (answered (rowOf link) (map isOne bits)) e)
+
+    decided : (o sized short all : Bool) → offered link ≡ o → eqb (length bits) size ≡ sized → ltb room held ≡ short → allBits bits ≡ all → Reading link bits room
+    decided false sized short all o s r a = unoffered o (read-unoffered link bits room o)
+    decided true false short all o s r a =
+        let h = eqb-false (length bits) size s in
+        no-length o h (read-length link bits room o h)
+    decided true true true all o s r a =
+        let l = eqb-true (length bits) size s in
+        let h = ltb-true room held r in
+        too-short o l h (read-short link bits room o l h)
+    decided true true false false o s r a =
+        let l = eqb-true (length bits) size s in
+        let h = ltb-false room held r in
+        no-bits o l h a (read-no-bit link bits room o l h a)
+    decided true true false true o s r a =
+        tried o (eqb-true (length bits) size s) (ltb-false room held r) a (readByTrying (codingOf (rowOf link)) (map isOne bits)) refl

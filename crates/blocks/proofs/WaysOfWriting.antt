@@ -26,20 +26,22 @@ pub data Writing (link : ℕ) (datagram : List ℕ) (room : ℕ) : Type 0 where
 pub writing-goes : (link : ℕ) (datagram : List ℕ) (room : ℕ) → Writing link datagram room
 writing-goes link datagram room = decided (offered link) (ltb held (length datagram)) (ltb room size) refl refl refl
   where
-  held : ℕ
-  held = bytesHeld (rowOf link)
-  size : ℕ
-  size = imageLength (rowOf link)
-  decided : (o long short : Bool) → offered link ≡ o → ltb held (length datagram) ≡ long → ltb room size ≡ short → Writing link datagram room
-  decided false long short o l s = unoffered o (write-unoffered link datagram room o)
-  decided true true short o l s =
-      let h = ltb-true held (length datagram) l in
-      too-long o h (write-long link datagram room o h)
-  decided true false true o l s =
-      let f = ltb-false held (length datagram) l in
-      let h = ltb-true room size s in
-      too-short o f h (write-short link datagram room o f h)
-  decided true false false o l s =
-      let f = ltb-false held (length datagram) l in
-      let h = ltb-false room size s in
-      writes o f h (write-done link datagram room o f h)
+    held : ℕ
+    held = bytesHeld (rowOf link)
+
+    size : ℕ
+    size = imageLength (rowOf link)
+
+    decided : (o long short : Bool) → offered link ≡ o → ltb held (length datagram) ≡ long → ltb room size ≡ short → Writing link datagram room
+    decided false long short o l s = unoffered o (write-unoffered link datagram room o)
+    decided true true short o l s =
+        let h = ltb-true held (length datagram) l in
+        too-long o h (write-long link datagram room o h)
+    decided true false true o l s =
+        let f = ltb-false held (length datagram) l in
+        let h = ltb-true room size s in
+        too-short o f h (write-short link datagram room o f h)
+    decided true false false o l s =
+        let f = ltb-false held (length datagram) l in
+        let h = ltb-false room size s in
+        writes o f h (write-done link datagram room o f h)
