@@ -26,7 +26,7 @@ differ-not : (b : Bool) → differ b (not b) ≡ 1
 differ-not true = refl
 differ-not false = refl
 
-differ-self : (b : Bool) → differ b b ≡ 0
+pub differ-self : (b : Bool) → differ b b ≡ 0
 differ-self true = refl
 differ-self false = refl
 

@@ -1,4 +1,5 @@
 pub mod Bits
+pub mod Counted
 pub mod Datagram
 pub mod Differences
 pub mod Filled

@@ -1,16 +1,16 @@
 // Bits one to a byte (document 01, "What the module does"): the test that a byte is a bit, bits as a number and back, a datagram
-// as bits and back, and the number of places where two words differ.
+// as bits and back, and the number of places where two words or two rows differ.
 ghost use mathlib.Core.Path.{_≡_};
 ghost use mathlib.Core.List.{map};
-ghost use mathlib.Core.Bool.{false};
-ghost use Prim.Native.Nat.{_+_, _*_, _≤_};
+ghost use mathlib.Core.Bool.{true, false};
+ghost use Prim.Native.Nat.{_+_, _*_, _≤_, min};
 ghost use lib.Bits.{bitXor};
 ghost use lib.Count.{ones};
 ghost use lib.ListN.{length, getD};
 ghost use Rattle.lists.specs.Over.{over};
 ghost use Rattle.bits.specs.Bits.{allBits, byte, isOne};
 ghost use Rattle.bits.specs.Datagram.{bitsOf, filled, bytesOf};
-ghost use Rattle.bits.specs.Row.{highFirst, number};
+ghost use Rattle.bits.specs.Row.{highFirst, number, differences};
 
 // Whether every byte is 0 or 1.
 pub fn all_bits(bytes: &[u8]) -> bool
@@ -90,4 +90,18 @@ pub fn distance(a: u32, b: u32) -> u32
     ensures { λ r. ⌜ r ≡ ones (bitXor a b) ⌝ }
 {
     u32::count_ones(a ^ b)
+}
+
+// In how many places two rows differ; where they are more than a limit, one more than the limit.
+pub fn differences_up_to(a: &[u8], b: &[u8], limit: usize) -> usize
+    requires { ⌜ (length (now a) ≡ length (now b)) × (allBits (now a) ≡ true) × (allBits (now b) ≡ true) ⌝ }
+    ensures { λ r. ⌜ r ≡ min (differences (map isOne (now (a .entry))) (map isOne (now (b .entry)))) (limit + 1) ⌝ }
+{
+    let mut count: usize = 0;
+    for i in 0..a.len() {
+        if a[i] != b[i] {
+            count += 1;
+        }
+    }
+    if count > limit { limit + 1 } else { count }
 }
