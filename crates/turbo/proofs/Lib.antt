@@ -2,6 +2,7 @@ pub mod Affine
 pub mod Cases
 pub mod Interleaved
 pub mod Lengths
+pub mod Number
 pub mod Passing
 pub mod Permutation
 pub mod Weave

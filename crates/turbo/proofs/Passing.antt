@@ -12,7 +12,7 @@ use Rattle.links.proofs.GoodFlags.{Silent}
 use Rattle.turbo.specs.Coded.{passed}
 
 -- how much passes depends on the flags only
-pub length-passed : (flags : List ℕ) (bits : List Bool) → length flags ≤ length bits → length (passed flags bits) ≡ total flags
+pub length-passed : {A : Type 0} (flags : List ℕ) (bits : List A) → length flags ≤ length bits → length (passed flags bits) ≡ total flags
 unfolding passed total
 length-passed [] bits h = refl
 length-passed (flag ∷ flags) [] h = absurd (omega arith)
@@ -25,13 +25,13 @@ unfolding passed
 passed-x [] x bits e = absurd (omega arith)
 passed-x (flag ∷ flags) x bits e = rw e
 
-of-nothing : (flags : List ℕ) → passed flags [] ≡ []
+of-nothing : {A : Type 0} (flags : List ℕ) → _≡_ {A = List A} (passed flags []) []
 unfolding passed
 of-nothing [] = refl
 of-nothing (flag ∷ flags) = refl
 
 -- of the first n bits, and of those behind them
-pub passed-split : (n : ℕ) (flags : List ℕ) (bits : List Bool) → passed flags bits ≡ passed (take n flags) (take n bits) ++ passed (drop n flags) (drop n bits)
+pub passed-split : {A : Type 0} (n : ℕ) (flags : List ℕ) (bits : List A) → passed flags bits ≡ passed (take n flags) (take n bits) ++ passed (drop n flags) (drop n bits)
 unfolding passed
 passed-split zero flags bits = refl
 passed-split (suc n) [] bits = refl

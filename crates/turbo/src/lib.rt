@@ -1,1 +1,2 @@
-// The turbo encoder (M.2092-1, Annex 2, 1.2.4): definitions stand in specs/, and the code follows with the block writer.
+// The turbo encoder (M.2092-1, Annex 2, 1.2.4; document 01, "From datagram to block").
+mod encoder;
