@@ -1,6 +1,7 @@
 pub mod Affine
 pub mod Cases
 pub mod Interleaved
+pub mod Left
 pub mod Lengths
 pub mod Number
 pub mod Passing

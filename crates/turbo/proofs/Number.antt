@@ -2,13 +2,14 @@
 -- Assumes nothing.
 use mathlib.Core.Path.{_≡_, refl, ap, _∙_}
 use mathlib.Core.Bool.{Bool, true, false}
+use mathlib.Core.List.{[], _∷_}
 use Prim.Native.Nat.{ℕ, _+_, _*_, _≤_, _<_}
 use native.Mathlib.Omega.{arith}
 use lib.Dec.{T, eqb, eqb→eq}
 use Rattle.lists.proofs.Line.{upto, square}
 use Rattle.bits.specs.Bits.{isOne, byte}
-use Rattle.bits.proofs.Bits.{byte-lt}
-use Rattle.turbo.specs.Encoder.{Register, start, fed}
+use Rattle.bits.proofs.Bits.{byte-lt, bits-bytes}
+use Rattle.turbo.specs.Encoder.{Register, start, feedback, fed, next}
 use Rattle.turbo.specs.Number.{registerOf, numberOf}
 
 -- two functions of a register and an input that agree wherever antt computes them, agree
@@ -35,13 +36,25 @@ bits false true false = refl
 bits false false true = refl
 bits false false false = refl
 
-pub register-number : (r : Register) → registerOf (numberOf r) ≡ r
-register-number r = bits (r .a1) (r .a2) (r .a3)
+-- what a number that the code made of a register says of it
+pub register-made : (x : Register) {n : ℕ} → n ≡ numberOf x → registerOf n ≡ x
+register-made x e = ap registerOf e ∙ bits (x .a1) (x .a2) (x .a3)
 
-pub number-small : (r : Register) → numberOf r < 8
+pub made-small : (x : Register) {n : ℕ} → n ≡ numberOf x → n < 8
 unfolding numberOf
-number-small r = omega (arith, byte-lt (r .a1), byte-lt (r .a2), byte-lt (r .a3))
+made-small x e = omega (arith, e, byte-lt (x .a1), byte-lt (x .a2), byte-lt (x .a3))
 
 pub register-start : registerOf 0 ≡ start
 unfolding registerOf
 register-start = refl
+
+-- a bit that the code made
+pub is-one : (b : Bool) {u : ℕ} → u ≡ byte b → isOne u ≡ b
+is-one b e = cc (bits-bytes (b ∷ []))
+
+-- what a register feeds back, and the register after a clock that is fed that
+pub feedback-small : (r : ℕ) {u : ℕ} → u ≡ byte (feedback (registerOf r)) → u ≤ 1
+feedback-small r e = omega (arith, e, byte-lt (feedback (registerOf r)))
+
+pub register-ending : (r : ℕ) {u n : ℕ} → u ≡ byte (feedback (registerOf r)) → n ≡ numberOf (next (registerOf r) (isOne u)) → registerOf n ≡ next (registerOf r) (feedback (registerOf r))
+register-ending r {u} back e = register-made (next (registerOf r) (isOne u)) e ∙ ap (next (registerOf r)) (is-one (feedback (registerOf r)) back)
