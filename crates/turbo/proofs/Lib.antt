@@ -1,4 +1,5 @@
 pub mod Affine
+pub mod AtClock
 pub mod Cases
 pub mod Interleaved
 pub mod Left
