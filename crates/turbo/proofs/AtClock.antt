@@ -1,20 +1,16 @@
 -- The loop over the clocks of a block, with no code in it: what holds at clock s, at the start, after a clock and at the end.
 -- Assumes nothing.
 use mathlib.Core.Path.{_≡_, refl, sym, ap, _∙_}
-use mathlib.Core.Bool.{true}
 use mathlib.Core.List.{List, [], _++_, map}
 use Prim.Native.Nat.{ℕ, _+_, _%_, _≤_, _<_}
 use native.Mathlib.Nat.{zero-mod, mod-lt, mod-add-mod}
 use native.Mathlib.Omega.{arith}
-use lib.Dec.{leb}
 use lib.ListN.{length, getD, take}
 use lib.Seq.{length-take-le, getD-take}
-use borrow.Author.Tests.{leb-true}
 use Rattle.lists.specs.Over.{Room, Lays, Laying}
-use Rattle.lists.proofs.All.{all-each}
 use Rattle.lists.proofs.Over.{fits-rest, fits-piece, more-piece, last}
 use Rattle.lists.proofs.Over as laying
-use Rattle.bits.specs.Bits.{isOne, byte, allBits}
+use Rattle.bits.specs.Bits.{isOne, byte}
 use Rattle.links.specs.Patterns.{flagsAt}
 use Rattle.turbo.specs.Encoder.{Register, start, next}
 use Rattle.turbo.specs.Coded.{six, passed, ending}
@@ -22,9 +18,6 @@ use Rattle.turbo.specs.Number.{registerOf, numberOf}
 use Rattle.turbo.specs.Encode.{Ready, codedBytes}
 use Rattle.turbo.proofs.Number.{register-start, register-made, made-small}
 use Rattle.turbo.proofs.Left.{left, left-start, left-more, left-done}
-
-pub bit-small : (bytes : List ℕ) → allBits bytes ≡ true → (i : ℕ) → i < length bytes → getD bytes i 0 ≤ 1
-bit-small bytes e i h = leb-true (getD bytes i 0) 1 (all-each (λ x. leb x 1) bytes e i h)
 
 -- the flags of clock s, where c is its place in the pattern
 flags-at : (pattern : List (List ℕ)) (period c s : ℕ) → 0 < period → period ≤ length pattern → c ≡ s % period → flagsAt (take period pattern) s ≡ getD pattern c []

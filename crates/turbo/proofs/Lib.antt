@@ -1,5 +1,6 @@
 pub mod Affine
 pub mod AtClock
+pub mod BitAt
 pub mod Cases
 pub mod Interleaved
 pub mod Left
@@ -7,4 +8,5 @@ pub mod Lengths
 pub mod Number
 pub mod Passing
 pub mod Permutation
+pub mod Steps
 pub mod Weave

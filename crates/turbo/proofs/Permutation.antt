@@ -76,7 +76,7 @@ module _ (row : Row) (good : T (goodRow row)) where
   some-width : 0 < row .k2
   some-width = sizes row good .width
 
-  k-is : row .k ≡ 2 * (half row * row .k2)
+  pub k-is : row .k ≡ 2 * (row .k1 / 2 * row .k2)
   k-is = sym (sizes row good .product) ∙ ap (λ (x : ℕ). x * row .k2) (sym (sizes row good .even)) ∙ mul-assoc 2 (half row) (row .k2)
 
   place-in : (m t c : ℕ) → m < 2 → t < half row → c < row .k2 → InBlock row (placeOf row m t c)

@@ -2,7 +2,9 @@
 mod clocks;
 mod encoder;
 mod ending;
+mod interleaver;
 
+pub use interleaver::interleave;
 use clocks::lay;
 use clocks::six;
 use encoder::next;

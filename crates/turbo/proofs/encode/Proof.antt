@@ -3,7 +3,8 @@ use mathlib.Core.Path.{_≡_, _∙_}
 use Prim.Native.Nat.{_-_}
 use native.Mathlib.Omega.{arith}
 use lib.ListN.{length}
-use Rattle.turbo.proofs.AtClock.{bit-small, AtClock, at-start, place-below, clock-fits, at-next, ending-fits, at-end}
+use Rattle.turbo.proofs.BitAt.{bit-small}
+use Rattle.turbo.proofs.AtClock.{AtClock, at-start, place-below, clock-fits, at-next, ending-fits, at-end}
 use borrow.Author.Needs.{needs}
 use Rattle.turbo.proofs.encode.Statement.{statement}
 use Rattle.turbo.proofs.encode.Tie as tie
