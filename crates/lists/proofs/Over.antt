@@ -51,7 +51,10 @@ pub start : (old : List ℕ) (from : ℕ) (goal : List ℕ) → Room from goal o
 start old from goal h = record { finish = refl; ends = refl; long = refl; room = h }
 
 module _ {old : List ℕ} {from : ℕ} {goal out : List ℕ} {at : ℕ} {rest : List ℕ} where
-  -- there is room for the next piece, and for the next element
+  -- there is room for all that is left, for the next piece, and for the next element
+  pub fits-rest : Laying old from goal out at rest → Room at rest out
+  fits-rest w = omega (arith, w .ends, w .long, w .room)
+
   pub fits-piece : (p rest' : List ℕ) → Laying old from goal out at rest → rest ≡ p ++ rest' → Room at p out
   fits-piece p rest' w e = omega (arith, ap length e, length-append p rest', w .ends, w .long, w .room)
 

@@ -1,7 +1,12 @@
 pub mod Affine
+pub mod AtClock
+pub mod BitAt
+pub mod Bounds
 pub mod Cases
 pub mod Interleaved
+pub mod Left
 pub mod Lengths
+pub mod Number
 pub mod Passing
 pub mod Permutation
 pub mod Steps
