@@ -1,4 +1,6 @@
 // Blocks (document 01, "From datagram to block"): a datagram as the image of its block, and back.
+mod coded;
+
 use links::Row;
 ghost use mathlib.Core.Path.{_≡_};
 ghost use mathlib.Core.List.{map};

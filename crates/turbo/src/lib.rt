@@ -4,11 +4,11 @@ mod encoder;
 mod ending;
 mod interleaver;
 
-pub use interleaver::interleave;
 use clocks::lay;
 use clocks::six;
 use encoder::next;
 use ending::end;
+pub use interleaver::interleave;
 ghost use mathlib.Core.Path.{_≡_};
 ghost use Prim.Native.Nat.{_+_, _%_, _≤_, _<_};
 ghost use Rattle.lists.specs.Over.{Room, Lays};

@@ -8,13 +8,6 @@ use Rattle.turbo.proofs.AtClock.{AtClock, at-start, place-below, clock-
 use borrow.Author.Needs.{needs}
 use Rattle.turbo.proofs.encode.Statement.{statement}
 use Rattle.turbo.proofs.encode.Tie as tie
-use Rattle.turbo.proofs.encode.Reads as reads
-use Rattle.turbo.proofs.encode.Lts as lts
-use Rattle.turbo.proofs.clocks.lay.Reads as lay-reads
-use Rattle.turbo.proofs.clocks.six.Reads as six-reads
-use Rattle.turbo.proofs.encoder.next.Reads as next-reads
-use Rattle.turbo.proofs.ending.end.Reads as end-reads
-use Rattle.turbo.proofs.turn.Reads as turn-reads
 
 abbrev Inv-loop : tie.InvT-loop
 Inv-loop u v period tail out₀ pattern at₀ a₀ b₀ c₀ s₀ s-end out at a b c s = (s-end ≡ length u) × AtClock u v pattern period tail out₀ out at a b c s

@@ -13,9 +13,6 @@ use Rattle.turbo.proofs.Permutation.{position-in-range}
 use borrow.Author.Needs.{needs}
 use Rattle.turbo.proofs.interleaver.interleave.Statement.{statement}
 use Rattle.turbo.proofs.interleaver.interleave.Tie as tie
-use Rattle.turbo.proofs.interleaver.interleave.Reads as reads
-use Rattle.turbo.proofs.interleaver.interleave.Lts as lts
-use Rattle.turbo.proofs.interleaver.position.Reads as position-reads
 
 abbrev Inv-loop : tie.InvT-loop
 Inv-loop row u v₀ s₀ s-end v s =

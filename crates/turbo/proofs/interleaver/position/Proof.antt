@@ -8,8 +8,6 @@ use Rattle.turbo.specs.Interleaver.{position}
 use Rattle.turbo.proofs.Bounds.{primeOf, Bounds, bounds}
 use Rattle.turbo.proofs.interleaver.position.Statement.{statement}
 use Rattle.turbo.proofs.interleaver.position.Tie as tie
-use Rattle.turbo.proofs.interleaver.position.Reads as reads
-use Rattle.turbo.proofs.interleaver.position.Lts as lts
 
 -- what the row's test says of the steps
 facts : (c : lts.After-primes reads.Pre reads.Post) → Bounds (c .before .before .before .args .row) (c .before .before .before .args .s)
