@@ -1,6 +1,7 @@
 pub mod Answered
 pub mod Blocks
 pub mod Calls
+pub mod Cleared
 pub mod Composed
 pub mod Exact
 pub mod Sound

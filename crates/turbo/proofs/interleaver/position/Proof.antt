@@ -10,10 +10,10 @@ use Rattle.turbo.proofs.interleaver.position.Statement.{statement}
 use Rattle.turbo.proofs.interleaver.position.Tie as tie
 
 -- what the row's test says of the steps
-facts : (c : lts.After-primes reads.Pre reads.Post) → Bounds (c .before .before .before .args .row) (c .before .before .before .args .s)
+facts : (c : tie.After-primes) → Bounds (c .before .before .before .args .row) (c .before .before .before .args .s)
 facts c = let p = c .before .before .before .pre in bounds (c .before .before .before .args .row) (c .before .before .before .args .s) (p .0) (p .1)
 
-small : (c : lts.After-primes reads.Pre reads.Post) → Fits w32 (primeOf (c .before .before .before .args .row) (c .before .before .before .args .s))
+small : (c : tie.After-primes) → Fits w32 (primeOf (c .before .before .before .args .row) (c .before .before .before .args .s))
 small c = search needs
 
 cast-k2 : tie.Need-cast-k2
