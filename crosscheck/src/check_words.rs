@@ -1,11 +1,12 @@
 //! The tests of link words: the second implementation against the printed Table 3 and document
 //! 01's cases, and the archive against the second implementation.
 
+use crate::bits::{bits, inverted};
 use crate::both_ways::{read_read_only_word, read_word, write_word, write_word_over};
 use crate::guarded::{Guarded, ROOM};
 use crate::report::{named_tests, Given, NamedTest, Test};
 use crate::tables::{digits, Tables};
-use crate::words::{bits, differing_places, inverted, Reading, Refusal, Word, Words, PLACES};
+use crate::words::{differing_places, Reading, Refusal, Word, Words, PLACES};
 
 pub const TESTS: &[NamedTest] = named_tests![
     second_words_equal_table_3,
