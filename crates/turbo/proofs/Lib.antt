@@ -6,6 +6,7 @@ pub mod Interleaved
 pub mod Left
 pub mod Lengths
 pub mod Number
+pub mod OfRow
 pub mod Passing
 pub mod Permutation
 pub mod Steps

@@ -16,12 +16,6 @@ use Rattle.turbo.proofs.Number.{feedback-small, made-small, register-en
 use Rattle.turbo.proofs.Left.{ending-more, ending-done}
 use Rattle.turbo.proofs.ending.end_one.Statement.{statement}
 use Rattle.turbo.proofs.ending.end_one.Tie as tie
-use Rattle.turbo.proofs.ending.end_one.Reads as reads
-use Rattle.turbo.proofs.ending.end_one.Lts as lts
-use Rattle.turbo.proofs.clocks.lay.Reads as lay-reads
-use Rattle.turbo.proofs.encoder.feedback.Reads as feedback-reads
-use Rattle.turbo.proofs.encoder.next.Reads as next-reads
-use Rattle.turbo.proofs.ending.alone.Reads as alone-reads
 
 abbrev Inv-loop : tie.InvT-loop
 Inv-loop from second register at out₀ tail to₀ r₀ t₀ t-end out to r t =
