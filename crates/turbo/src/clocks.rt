@@ -16,9 +16,11 @@ pub fn six(a: u8, b: u8, u: u8, v: u8) -> [u8; 6]
     requires { ⌜ (a < 8) × (b < 8) × (u ≤ 1) × (v ≤ 1) ⌝ }
     ensures { λ r. ⌜ r ≡ map byte (six (registerOf a) (registerOf b) (isOne u) (isOne v)) ⌝ }
 {
-    let first = y0(a, u);
-    let second = y1(a, u);
-    [u, first, second, v, y0(b, v), y1(b, v)]
+    let a_y0 = y0(a, u);
+    let a_y1 = y1(a, u);
+    let b_y0 = y0(b, v);
+    let b_y1 = y1(b, v);
+    [u, a_y0, a_y1, v, b_y0, b_y1]
 }
 
 // Lays one bit as often as its flag says; answers the place behind.
