@@ -83,6 +83,17 @@ module _ {old : List ℕ} {from : ℕ} {goal out : List ℕ} {at : ℕ} {rest : 
   pub done : Laying old from goal out at rest → rest ≡ [] → Lays from goal old out at
   done w e = (omega (arith, ap length e, w .ends), sym (over-nil at out) ∙ rw (← e) (w .finish))
 
+-- two calls in a row lay two pieces
+module _ (at : ℕ) (p q old : List ℕ) {goal : List ℕ} (e : goal ≡ p ++ q) (room : Room at goal old) where
+  pub first-fits : Room at p old
+  first-fits = fits-piece p q (start old at goal room) e
+
+  pub second-fits : {mid : List ℕ} {between : ℕ} → Lays at p old mid between → Room between q mid
+  second-fits first = fits-rest (more-piece p q (start old at goal room) e first)
+
+  pub both-laid : {mid new : List ℕ} {between end : ℕ} → Lays at p old mid between → Lays between q mid new end → Lays at goal old new end
+  both-laid first second = last (more-piece p q (start old at goal room) e first) second
+
 -- what is as long as what stood there takes its place whole
 pub over-all : (p old : List ℕ) → length p ≡ length old → over 0 p old ≡ p
 over-all p old e = over-zero p old ∙ ap (λ (rest : List ℕ). p ++ rest) (drop-of-length-le old {i = length p} (omega (arith, e))) ∙ append-nil p

@@ -1,6 +1,6 @@
 -- The loop over the clocks of a block, with no code in it: what holds at clock s, at the start, after a clock and at the end.
 -- Assumes nothing.
-use mathlib.Core.Path.{_≡_, refl, sym, ap, _∙_}
+use mathlib.Core.Path.{_≡_, sym, ap, _∙_}
 use mathlib.Core.List.{List, [], _++_, map}
 use Prim.Native.Nat.{ℕ, _+_, _%_, _≤_, _<_}
 use native.Mathlib.Nat.{zero-mod, mod-lt, mod-add-mod}
@@ -12,7 +12,7 @@ use Rattle.lists.proofs.Over.{fits-rest, fits-piece, more-piece, last}
 use Rattle.lists.proofs.Over as laying
 use Rattle.bits.specs.Bits.{isOne, byte}
 use Rattle.links.specs.Patterns.{flagsAt}
-use Rattle.turbo.specs.Encoder.{Register, start, next}
+use Rattle.turbo.specs.Encoder.{start, next}
 use Rattle.turbo.specs.Coded.{six, passed, ending}
 use Rattle.turbo.specs.Number.{registerOf, numberOf}
 use Rattle.turbo.specs.Encode.{Ready, codedBytes}
@@ -39,6 +39,7 @@ module _ (u v : List ℕ) (pattern : List (List ℕ)) (period : ℕ) (tail : Lis
     pub laying : Laying old 0 (codedBytes u v pattern period tail) out at (left (take period pattern) tail u v s (registerOf a) (registerOf b))
 
   pub at-start : (out : List ℕ) → Room 0 (codedBytes u v pattern period tail) out → AtClock out out 0 0 0 0 0
+  unfolding codedBytes
   at-start out room =
       record {
         within = omega arith;

@@ -2,7 +2,7 @@
 -- Assumes nothing.
 use mathlib.Core.Path.{_≡_, refl, ap, _∙_}
 use mathlib.Core.Bool.{Bool, true, false}
-use mathlib.Core.List.{List, [], _∷_, _++_, map, map-append}
+use mathlib.Core.List.{List, [], _++_, map, map-append}
 use Prim.Native.Nat.{ℕ, suc, _+_, _<_, _≤_}
 use native.Mathlib.Numerals.{add-one}
 use native.Mathlib.Omega.{arith}
@@ -28,9 +28,14 @@ pub ending-done : (second : Bool) (tail : List (List ℕ)) (t e : ℕ) (r : Regi
 unfolding endingOf
 ending-done second tail t e r h l = let end : t ≡ e = omega arith in rw (end, slice-empty)
 
--- both endings
-pub ending-both : (tail : List (List ℕ)) (a b : Register) → length tail ≡ 6
-    → map byte (ending tail a b) ≡ map byte (endingOf false (slice 0 3 tail) a) ++ map byte (endingOf true (slice 3 6 tail) b)
+-- of both: the first encoder's, then the second's
+abbrev pub firstBytes : List (List ℕ) → Register → List ℕ
+firstBytes tail a = map byte (endingOf false (slice 0 3 tail) a)
+
+abbrev pub secondBytes : List (List ℕ) → Register → List ℕ
+secondBytes tail b = map byte (endingOf true (slice 3 6 tail) b)
+
+pub ending-both : (tail : List (List ℕ)) (a b : Register) → length tail ≡ 6 → map byte (ending tail a b) ≡ firstBytes tail a ++ secondBytes tail b
 ending-both tail a b l = rw (take-all 6 tail (omega (arith, l))) (map-append byte (endingOf false (take 3 tail) a) (endingOf true (drop 3 tail) b))
 
 -- ---- of a block: u and v its bits and the same interleaved, at clock s with the registers a and b

@@ -1,13 +1,12 @@
 -- The encoder of the code, called for a link's row: it lays the row's coded bits, N of them.
 -- Assumes nothing.
-use mathlib.Core.Path.{_≡_, refl, sym, ap, _∙_}
+use mathlib.Core.Path.{_≡_, sym, ap, _∙_}
 use mathlib.Core.Bool.{true}
 use mathlib.Core.List.{List, map}
-use Prim.Native.Nat.{ℕ, _≤_, _<_}
-use native.Mathlib.Nat.{le-trans}
+use Prim.Native.Nat.{ℕ, _≤_}
 use native.Mathlib.Omega.{arith}
 use lib.Dec.{T}
-use lib.ListN.{length, getD, length-map}
+use lib.ListN.{length, length-map}
 use Rattle.lists.specs.Over.{Room, Lays}
 use Rattle.bits.specs.Bits.{isOne, byte, allBits}
 use Rattle.bits.proofs.Bits.{bits-bytes, all-bytes}
@@ -19,7 +18,7 @@ use Rattle.links.proofs.Facts.{sizes}
 use Rattle.links.proofs.GoodFlags.{pattern, tail}
 use Rattle.links.proofs.Padded.{take-padded, padded-full, low-padded, low-pattern, low-tail}
 use Rattle.turbo.specs.Interleaver.{interleaved}
-use Rattle.turbo.specs.Coded.{codedFrom, coded}
+use Rattle.turbo.specs.Coded.{coded}
 use Rattle.turbo.specs.Encode.{Ready, codedBytes}
 use Rattle.turbo.proofs.Interleaved.{length-interleaved}
 use Rattle.turbo.proofs.Lengths.{length-coded}
@@ -34,7 +33,12 @@ pub record OfRow (row : Row) (u v : List ℕ) (clocks : List (List ℕ)) (period
   pub period-is : period ≡ length (patternOf (row .pattern))
   pub tail-is : ending ≡ padded 6 (tailOf (row .tail))
 
--- the coded bits of a block, one to a byte, are N, and N is at most the longest
+-- the coded bits of a block stand in front, N of them
+pub record Laid (row : Row) (u old new : List ℕ) (r : ℕ) : Type 0 where
+  pub lays : Lays 0 (map byte (coded row (map isOne u))) old new r
+  pub count : r ≡ imageLength row
+  pub short : imageLength row ≤ longestImage
+
 pub length-coded-bytes : (row : Row) → T (goodRow row) → (u : List ℕ) → length u ≡ row .k → length (map byte (coded row (map isOne u))) ≡ imageLength row
 length-coded-bytes row good u l = length-map (coded row (map isOne u)) byte ∙ length-coded row good (map isOne u) (length-map u isOne ∙ l)
 
@@ -47,8 +51,8 @@ module _ {row : Row} {u v : List ℕ} {clocks : List (List ℕ)} {period : ℕ} 
         bits-v = rw (of .taken) (all-bytes (interleaved row (map isOne u)));
         some = rw (of .period-is) (pattern row (of .good) .some);
         few = rw (of .period-is) (pattern row (of .good) .few);
-        twice = rw (of .pattern-is) (low-padded 2 10 (patternOf (row .pattern)) (low-pattern row (of .good)));
-        tail-twice = rw (of .tail-is) (low-padded 2 6 (tailOf (row .tail)) (low-tail row (of .good)));
+        pattern-flags = rw (of .pattern-is) (low-padded 2 10 (patternOf (row .pattern)) (low-pattern row (of .good)));
+        tail-flags = rw (of .tail-is) (low-padded 2 6 (tailOf (row .tail)) (low-tail row (of .good)));
       }
 
   pub coded-bytes : codedBytes u v clocks period ending ≡ map byte (coded row (map isOne u))
@@ -68,5 +72,11 @@ module _ {row : Row} {u v : List ℕ} {clocks : List (List ℕ)} {period : ℕ} 
   pub room : (out : List ℕ) → imageLength row ≤ length out → Room 0 (codedBytes u v clocks period ending) out
   room out h = rw coded-bytes (omega (arith, length-coded-bytes row (of .good) u (of .long)))
 
-  pub laid : (old new : List ℕ) (r : ℕ) → Lays 0 (codedBytes u v clocks period ending) old new r → Lays 0 (map byte (coded row (map isOne u))) old new r × (r ≡ imageLength row)
-  laid old new r l = let w = rw coded-bytes at l in (w, omega (arith, w .0, length-coded-bytes row (of .good) u (of .long)))
+  pub laid : (old new : List ℕ) (r : ℕ) → Lays 0 (codedBytes u v clocks period ending) old new r → Laid row u old new r
+  laid old new r l =
+      let lays = rw coded-bytes at l in
+      record {
+        lays = lays;
+        count = omega (arith, lays .0, length-coded-bytes row (of .good) u (of .long));
+        short = sizes row (of .good) .image;
+      }

@@ -9,16 +9,18 @@ ghost use Rattle.lists.specs.Over.{Room, Lays};
 ghost use Rattle.bits.specs.Bits.{isOne, byte};
 ghost use Rattle.turbo.specs.Number.{registerOf};
 ghost use Rattle.turbo.specs.Coded.{six, passed};
-ghost use Rattle.turbo.specs.Encode.{Twice};
+ghost use Rattle.turbo.specs.Encode.{AtMostTwice};
 
 // X Y0 Y1 X' Y'0 Y'1 of a clock, the registers a and b, the inputs u and v.
 pub fn six(a: u8, b: u8, u: u8, v: u8) -> [u8; 6]
     requires { ⌜ (a < 8) × (b < 8) × (u ≤ 1) × (v ≤ 1) ⌝ }
     ensures { λ r. ⌜ r ≡ map byte (six (registerOf a) (registerOf b) (isOne u) (isOne v)) ⌝ }
 {
-    let first = y0(a, u);
-    let second = y1(a, u);
-    [u, first, second, v, y0(b, v), y1(b, v)]
+    let a_y0 = y0(a, u);
+    let a_y1 = y1(a, u);
+    let b_y0 = y0(b, v);
+    let b_y1 = y1(b, v);
+    [u, a_y0, a_y1, v, b_y0, b_y1]
 }
 
 // Lays one bit as often as its flag says; answers the place behind.
@@ -39,7 +41,7 @@ fn pass(flag: u8, bit: u8, at: usize, out: &mut [u8]) -> usize
 
 // Lays what the flags of a clock pass on of its six bits.
 pub fn lay(flags: [u8; 6], bits: [u8; 6], at: usize, out: &mut [u8]) -> usize
-    requires { ⌜ Twice flags ⌝ ∗ ⌜ Room at (passed flags bits) (now out) ⌝ }
+    requires { ⌜ AtMostTwice flags ⌝ ∗ ⌜ Room at (passed flags bits) (now out) ⌝ }
     ensures { λ r. ⌜ Lays at (passed flags bits) (now (out .entry)) (now (out .exit)) r ⌝ }
 {
     let mut to = at;

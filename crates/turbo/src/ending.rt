@@ -5,15 +5,14 @@ use crate::clocks::six;
 use crate::encoder::feedback;
 use crate::encoder::next;
 ghost use mathlib.Core.Path.{_≡_};
-ghost use mathlib.Core.List.{[], map};
-ghost use Prim.Native.Nat.{ℕ, _+_, _≤_, _<_};
-ghost use lib.ListN.{getD};
+ghost use mathlib.Core.List.{map};
+ghost use Prim.Native.Nat.{_+_, _≤_, _<_};
 ghost use lib.Seq.{slice};
 ghost use Rattle.lists.specs.Over.{Room, Lays};
 ghost use Rattle.bits.specs.Bits.{byte};
 ghost use Rattle.turbo.specs.Number.{registerOf};
 ghost use Rattle.turbo.specs.Coded.{alone, endingOf, ending};
-ghost use Rattle.turbo.specs.Encode.{Twice};
+ghost use Rattle.turbo.specs.Encode.{AllAtMostTwice};
 
 // The six of a clock of the ending: the other encoder stands at zero.
 fn alone(second: bool, register: u8) -> [u8; 6]
@@ -36,7 +35,7 @@ fn end_one(
     at: usize,
     out: &mut [u8],
 ) -> usize
-    requires { ⌜ (from ≤ 3) × (register < 8) × ((c : ℕ) → Twice (getD tail c [])) ⌝ ∗ ⌜ Room at (map byte (endingOf second (slice from (from + 3) tail) (registerOf register))) (now out) ⌝ }
+    requires { ⌜ (from ≤ 3) × (register < 8) × AllAtMostTwice tail ⌝ ∗ ⌜ Room at (map byte (endingOf second (slice from (from + 3) tail) (registerOf register))) (now out) ⌝ }
     ensures { λ r. ⌜ Lays at (map byte (endingOf second (slice from (from + 3) tail) (registerOf register))) (now (out .entry)) (now (out .exit)) r ⌝ }
 {
     let mut to = at;
@@ -51,7 +50,7 @@ fn end_one(
 
 // Lays the ending of both, the registers a and b.
 pub fn end(tail: [[u8; 6]; 6], a: u8, b: u8, at: usize, out: &mut [u8]) -> usize
-    requires { ⌜ (a < 8) × (b < 8) × ((c : ℕ) → Twice (getD tail c [])) ⌝ ∗ ⌜ Room at (map byte (ending tail (registerOf a) (registerOf b))) (now out) ⌝ }
+    requires { ⌜ (a < 8) × (b < 8) × AllAtMostTwice tail ⌝ ∗ ⌜ Room at (map byte (ending tail (registerOf a) (registerOf b))) (now out) ⌝ }
     ensures { λ r. ⌜ Lays at (map byte (ending tail (registerOf a) (registerOf b))) (now (out .entry)) (now (out .exit)) r ⌝ }
 {
     let to = end_one(tail, 0, false, a, at, out);

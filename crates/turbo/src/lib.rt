@@ -15,7 +15,7 @@ ghost use Rattle.lists.specs.Over.{Room, Lays};
 ghost use Rattle.turbo.specs.Encode.{Ready, codedBytes};
 
 // The next clock's place in a pattern, which begins again after `period` clocks.
-fn turn(c: usize, period: usize) -> usize
+fn next_clock(c: usize, period: usize) -> usize
     requires { ⌜ (c < period) × (period ≤ 10) ⌝ }
     ensures { λ r. ⌜ r ≡ (c + 1) % period ⌝ }
 {
@@ -45,7 +45,7 @@ pub fn encode(
         at = lay(flags, six(a, b, x, y), at, out);
         a = next(a, x);
         b = next(b, y);
-        c = turn(c, period);
+        c = next_clock(c, period);
     }
     end(tail, a, b, at, out)
 }

@@ -50,7 +50,7 @@ lay-requires c κs =
     let p = c .before .before .before .before .before .before .before .before .before .before .pre .0 in
     let l = c .before .before .before .before .before .before .loop in
     let ten : length (c .before .before .before .before .before .before .before .before .before .before .args .t3) ≡ 10 = search needs in
-    (p .twice (l .c), rw (c .before .six .ensures) (clock-fits p ten (l .inv .1) (omega arith)))
+    (p .pattern-flags (l .c), rw (c .before .six .ensures) (clock-fits p ten (l .inv .1) (omega arith)))
 
 next-requires : tie.Need-next-requires Inv-loop μ-loop
 next-requires c κs =
@@ -64,8 +64,8 @@ next-requires-2 c κs =
     let l = c .before .before .before .before .before .before .before .before .before .before .loop in
     (l .inv .1 .small-b, bit-small (c .before .before .before .before .before .before .before .before .before .before .before .before .before .before .args .v .now) (p .bits-v) (l .s) (omega (arith, p .same)))
 
-turn-requires : tie.Need-turn-requires Inv-loop μ-loop
-turn-requires c κs =
+next-clock-requires : tie.Need-next-clock-requires Inv-loop μ-loop
+next-clock-requires c κs =
     let p = c .before .before .before .before .before .before .before .before .before .before .before .before .before .before .before .pre .0 in
     let ten : length (c .before .before .before .before .before .before .before .before .before .before .before .before .before .before .before .args .t3) ≡ 10 = search needs in
     (place-below p ten (c .before .before .before .before .before .before .before .before .before .before .before .loop .inv .1), p .few)
@@ -82,14 +82,14 @@ loop-again c =
     let l = c .before .before .before .before .before .before .before .before .before .before .before .before .loop in
     let ten : length (c .before .before .before .before .before .before .before .before .before .before .before .before .before .before .before .before .args .t3) ≡ 10 = search needs in
     let laid = rw (c .before .before .before .before .before .before .before .six .ensures) at (c .before .before .before .before .before .lay .ensures) in
-    (l .inv .0, at-next p ten (l .inv .1) (omega arith) laid (c .before .before .next .ensures) (c .before .next2 .ensures) (c .turn .ensures))
+    (l .inv .0, at-next p ten (l .inv .1) (omega arith) laid (c .before .before .next .ensures) (c .before .next2 .ensures) (c .next-clock .ensures))
 
 end-requires : tie.Need-end-requires Inv-loop μ-loop
 end-requires c κs =
     let p = c .before .before .before .before .before .before .pre .0 in
     let i = c .before .before .loop .inv .1 in
     let ten : length (c .before .before .before .before .before .before .args .t3) ≡ 10 = search needs in
-    ((i .small-a, i .small-b, p .tail-twice), ending-fits p ten i (omega arith))
+    ((i .small-a, i .small-b, p .tail-flags), ending-fits p ten i (omega arith))
 
 same-length : tie.Need-same-length Inv-loop μ-loop
 same-length c = c .before .before .end .kept .1 .1 .1 .1 .0 ∙ c .before .before .before .before .before .loop .inv .1 .laying .long
@@ -115,7 +115,7 @@ encode-spec =
     lay-requires
     next-requires
     next-requires-2
-    turn-requires
+    next-clock-requires
     add-s
     loop-less
     loop-again

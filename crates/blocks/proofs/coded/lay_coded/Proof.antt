@@ -43,7 +43,7 @@ same-length-2 : tie.Need-same-length-2
 same-length-2 c = search needs
 
 returns : tie.Need-returns
-returns c = laid (of-row (c .before .before .before)) _ _ _ (c .before .before .encode .ensures) .0
+returns c = laid (of-row (c .before .before .before)) _ _ _ (c .before .before .encode .ensures) .lays
 
 pub lay-coded-spec : {M : Type 1} → statement M
 lay-coded-spec =

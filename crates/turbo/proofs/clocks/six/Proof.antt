@@ -22,7 +22,14 @@ unfolding six
 returns c =
     let a = c .before .before .before .before .args in
     let p = c .before .before .before .before .pre in
-    cc (byte-isOne (a .u) (p .2), byte-isOne (a .v) (p .3))
+    rw (
+      c .before .before .before .y0 .ensures,
+      c .before .before .y1 .ensures,
+      c .before .y02 .ensures,
+      c .y12 .ensures,
+      byte-isOne (a .u) (p .2),
+      byte-isOne (a .v) (p .3),
+    )
 
 pub six-spec : {M : Type 1} → statement M
 six-spec = tie.close (tie.spec y0-requires y1-requires y0-requires-2 y1-requires-2 returns)

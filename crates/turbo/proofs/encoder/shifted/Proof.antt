@@ -1,6 +1,6 @@
 -- The code and the definition agree at each register and input, which antt computes. Assumes nothing.
 use mathlib.Core.Bool.{xor}
-use Prim.Native.Nat.{ℕ, _+_, _*_, _%_}
+use Prim.Native.Nat.{_+_, _*_, _%_}
 use lib.Bits.{bitOr, bitXor}
 use borrow.Author.Needs.{needs}
 use Rattle.bits.specs.Bits.{isOne, byte}

@@ -4,8 +4,8 @@ use Prim.Native.Nat.{_+_, _<_}
 use native.Mathlib.Nat.{mod-self, mod-eq-of-lt}
 use native.Mathlib.Omega.{arith}
 use borrow.Author.Needs.{needs}
-use Rattle.turbo.proofs.turn.Statement.{statement}
-use Rattle.turbo.proofs.turn.Tie as tie
+use Rattle.turbo.proofs.next_clock.Statement.{statement}
+use Rattle.turbo.proofs.next_clock.Tie as tie
 
 add-if1 : tie.Need-add-if1
 add-if1 c = search needs
@@ -19,5 +19,5 @@ returns c = let below : c .before .args .c + 1 < c .before .args .period = searc
 returns-2 : tie.Need-returns-2
 returns-2 c = let end : c .before .args .c + 1 ≡ c .before .args .period = omega arith in rw end (sym (mod-self _))
 
-pub turn-spec : {M : Type 1} → statement M
-turn-spec = tie.close (tie.spec add-if1 add-result returns returns-2)
+pub next-clock-spec : {M : Type 1} → statement M
+next-clock-spec = tie.close (tie.spec add-if1 add-result returns returns-2)
