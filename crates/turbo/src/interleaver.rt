@@ -9,7 +9,8 @@ ghost use Rattle.bits.specs.Bits.{isOne, byte, allBits};
 ghost use Rattle.links.specs.Good.{goodRow};
 ghost use Rattle.turbo.specs.Interleaver.{position, InBlock, interleaved};
 
-// π(s): the place of the bit that the second encoder takes as its s-th; both count from 1.
+// π(s): the place of the bit that the second encoder takes as its s-th; both count from 1. It is computed in usize, since a row's test
+// does not bound its primes.
 fn position(row: Row, s: usize) -> usize
     requires { ⌜ T (goodRow row) × InBlock row s ⌝ }
     ensures { λ r. ⌜ r ≡ position row s ⌝ }
