@@ -14,7 +14,7 @@ use Rattle.links.specs.Sizes.{bytesHeld}
 use Rattle.messages.specs.Step.{stepMessage, finished, message, refused as step-refused}
 use Rattle.turbo.specs.Encoder.{start, next, y0, y1}
 use Rattle.turbo.specs.Interleaver.{position}
-use Rattle.turbo.specs.Coded.{endingOfFirst}
+use Rattle.turbo.specs.Coded.{endingOf}
 use Rattle.turbo.specs.Outputs.{outputs}
 use Rattle.words.specs.Word.{wordOf, wordBits}
 use Rattle.words.specs.Calls.{readWord, refused, found}
@@ -50,7 +50,7 @@ pub record Cases : Type 0 where
   -- input 1 and then zeros: Y0 and Y1
   pub P7 : (map byte (outputs y0 start (true ∷ replicate 7 false)) ≡ 1 ∷ 1 ∷ 1 ∷ 1 ∷ 0 ∷ 0 ∷ 1 ∷ 0 ∷ []) × (map byte (outputs y1 start (true ∷ replicate 7 false)) ≡ 1 ∷ 1 ∷ 0 ∷ 1 ∷ 1 ∷ 1 ∷ 0 ∷ 0 ∷ [])
   -- the ending straight after a single 1: X Y0 Y1 of its three clocks
-  pub P8 : map byte (endingOfFirst (replicate 3 (flags 1 1 1 0 0 0)) (next start true)) ≡ 0 ∷ 1 ∷ 1 ∷ 1 ∷ 0 ∷ 1 ∷ 1 ∷ 1 ∷ 1 ∷ []
+  pub P8 : map byte (endingOf false (replicate 3 (flags 1 1 1 0 0 0)) (next start true)) ≡ 0 ∷ 1 ∷ 1 ∷ 1 ∷ 0 ∷ 1 ∷ 1 ∷ 1 ∷ 1 ∷ []
   -- link 20: π of 1 to 4, of 95 and of 96
   pub P9 : map (position (rowOf 20)) (1 ∷ 2 ∷ 3 ∷ 4 ∷ 95 ∷ 96 ∷ []) ≡ 2 ∷ 43 ∷ 76 ∷ 21 ∷ 24 ∷ 65 ∷ []
   -- link 12 holds 117 bytes, and 118 are refused, whatever they are and however large the buffer
