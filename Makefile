@@ -1,6 +1,7 @@
 # make run: the link word printer on document 01's example, and the example of the README in C.
 # make test: the gate, as .ci/run runs it.
-.PHONY: run test
+# make bench: nanoseconds per block and ratios to a plain writer in C, measured in one run.
+.PHONY: run test bench
 
 CC ?= gcc
 CFLAGS = -std=c11 -O2 -Wall -Wextra -Wpedantic -Werror
@@ -17,3 +18,11 @@ build/example: host/example.c include/decklewren.h
 
 test:
 	bash .ci/run
+
+bench: build/bench
+	build/bench
+
+build/bench: bench/bench.c bench/plain.c bench/plain.h include/decklewren.h
+	mkdir -p build
+	rt staticlib decklewren >build/staticlib.log
+	$(CC) $(CFLAGS) -O3 -Iinclude bench/bench.c bench/plain.c target/staticlib/libdecklewren.a -o $@

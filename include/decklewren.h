@@ -13,8 +13,8 @@
 
    status  when
      0     done
-     1     number above 63 for a link word
-     2     link word of the wrong length
+     1     link not offered; number above 63 for a link word
+     2     datagram longer than the link holds; link word of the wrong length
      3     output buffer too short
      4     a byte neither 0 nor 1
      6     no code word within seven
@@ -65,6 +65,13 @@ decklewren_written decklewren_write_word(uint32_t number, uint8_t *out, size_t o
             else, the first of these that applies:
             2 bits_len is not 32, 4 a byte neither 0 nor 1, 6 no code word within seven */
 decklewren_word decklewren_read_word(const uint8_t *bits, size_t bits_len);
+
+/* Writes the image of a datagram's block (M.2092-1, Annex 2, 1.2.4 to 1.2.6), for the links that document 01 lists.
+   In:      link; datagram, at most as many bytes as the link holds; it is filled with zero bytes
+   Out:     N bytes 0 or 1 at the start of out, N being the link's; bytes behind stay
+   Returns: status 0 and count N; else, the first of these that applies:
+            1 link not offered, 2 datagram longer than the link holds, 3 out_len below N */
+decklewren_written decklewren_write_block(uint32_t link, const uint8_t *datagram, size_t datagram_len, uint8_t *out, size_t out_len);
 
 /* Finds the message that begins at a position of a datagram (docs/MESSAGES.md has the loop that walks one).
    In:      datagram, and any position

@@ -26,6 +26,13 @@ pub struct Stepped {
 extern "C" {
     fn decklewren_write_word(number: u32, out: *mut u8, out_len: usize) -> Written;
     fn decklewren_read_word(bits: *const u8, bits_len: usize) -> WordRead;
+    fn decklewren_write_block(
+        link: u32,
+        datagram: *const u8,
+        datagram_len: usize,
+        out: *mut u8,
+        out_len: usize,
+    ) -> Written;
     fn decklewren_step_message(
         datagram: *const u8,
         datagram_len: usize,
@@ -43,6 +50,12 @@ pub fn write_word(number: u32, out: &mut [u8]) -> Written {
 pub fn read_word(bits: &mut [u8]) -> WordRead {
     // SAFETY: pointer and length are those of one slice, lent for the call.
     unsafe { decklewren_read_word(bits.as_mut_ptr(), bits.len()) }
+}
+
+pub fn write_block(link: u32, datagram: &mut [u8], out: &mut [u8]) -> Written {
+    let (datagram, datagram_len) = (datagram.as_mut_ptr(), datagram.len());
+    // SAFETY: each pointer and its length are those of one slice, lent for the call.
+    unsafe { decklewren_write_block(link, datagram, datagram_len, out.as_mut_ptr(), out.len()) }
 }
 
 pub fn step_message(datagram: &mut [u8], position: usize) -> Stepped {

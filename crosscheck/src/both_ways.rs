@@ -7,6 +7,7 @@ use crate::messages::Step;
 use crate::report::Test;
 use crate::words::{Reading, Refusal};
 use std::fmt::Debug;
+use std::sync::OnceLock;
 
 /// What is seen of a writing call: its answer, the bytes it was to write, and whether every other
 /// byte of the room, in the buffer and around it, is as it was.
@@ -15,6 +16,23 @@ struct WritingSeen {
     answer: Written,
     written: Vec<u8>,
     rest_unchanged: bool,
+}
+
+/// What is seen of a call that reads one buffer and writes another: its answer, the first byte that
+/// is not as it was to be written, and whether every other byte of both buffers is as it was.
+#[derive(Debug, PartialEq)]
+struct CodingSeen<A> {
+    answer: A,
+    first_wrong: Option<WrongByte>,
+    rest_unchanged: bool,
+    input_unchanged: bool,
+}
+
+#[derive(Debug, PartialEq)]
+struct WrongByte {
+    place: usize,
+    expected: u8,
+    got: u8,
 }
 
 /// What is seen of a reading call.
@@ -31,9 +49,16 @@ pub fn write_word(
     length: usize,
     expected: Result<Vec<u8>, Refusal>,
 ) {
-    let running = (0..ROOM).map(|n| (n * 7 % 251) as u8);
-    let old_contents = [vec![0xA5; ROOM], running.collect()];
-    write_word_over(&old_contents, test, room, number, length, expected);
+    write_word_over(old_contents(), test, room, number, length, expected);
+}
+
+/// Two contents of a room that differ in most bytes.
+fn old_contents() -> &'static [Vec<u8>; 2] {
+    static CONTENTS: OnceLock<[Vec<u8>; 2]> = OnceLock::new();
+    CONTENTS.get_or_init(|| {
+        let running = (0..ROOM).map(|n| (n * 7 % 251) as u8);
+        [vec![0xA5; ROOM], running.collect()]
+    })
 }
 
 /// Writes the word over each of these old contents of the room.
@@ -45,21 +70,21 @@ pub fn write_word_over(
     length: usize,
     expected: Result<Vec<u8>, Refusal>,
 ) {
-    let status = expected.clone().err().unwrap_or(0);
-    let written = expected.unwrap_or_default();
+    let (answer, written) = to_be_written(expected);
     let count = written.len();
     let places = BOTH_PLACES.into_iter();
     let ways = places.flat_map(|placed| old_contents.iter().map(move |old| (placed, old)));
     let calls = ways.map(|(placed, old)| {
         room.bytes().copy_from_slice(old);
         let answer = archive::write_word(number, room.buffer(placed, length));
-        let start = placed.span(length).start;
-        seen(answer, room.bytes(), old, start, count)
+        let (before, written, behind) = parted(room.bytes(), placed.span(length).start, count);
+        let (old_before, _, old_behind) = parted(old, placed.span(length).start, count);
+        WritingSeen {
+            answer,
+            written: written.to_vec(),
+            rest_unchanged: before == old_before && behind == old_behind,
+        }
     });
-    let answer = Written {
-        status,
-        count: count as u32,
-    };
     let expected = WritingSeen {
         answer,
         written,
@@ -69,13 +94,11 @@ pub fn write_word_over(
     test.case(call, expected, calls);
 }
 
-fn seen(answer: Written, room: &[u8], old: &[u8], start: usize, count: usize) -> WritingSeen {
-    let end = start + count;
-    WritingSeen {
-        answer,
-        written: room[start..end].to_vec(),
-        rest_unchanged: room[..start] == old[..start] && room[end..] == old[end..],
-    }
+/// What stands before, in and behind the `count` bytes from this start on.
+fn parted(room: &[u8], start: usize, count: usize) -> (&[u8], &[u8], &[u8]) {
+    let (before, rest) = room.split_at(start);
+    let (written, behind) = rest.split_at(count);
+    (before, written, behind)
 }
 
 pub fn read_word(
@@ -145,8 +168,90 @@ fn read<A: Debug + PartialEq>(
     test.case(name, expected, calls);
 }
 
+/// The rooms of a call that reads one buffer and writes another.
+pub struct Rooms {
+    pub input: Guarded,
+    pub output: Guarded,
+}
+
+impl Rooms {
+    pub fn new() -> Rooms {
+        Rooms {
+            input: Guarded::new(),
+            output: Guarded::new(),
+        }
+    }
+
+    /// Rooms of which the input's is read-only while a call is made.
+    pub fn with_read_only_input() -> Rooms {
+        Rooms {
+            input: Guarded::read_only_in_calls(),
+            output: Guarded::new(),
+        }
+    }
+}
+
+/// A call that reads this input and writes to a buffer of this length: it is to give this answer and
+/// to write these bytes. It is made twice, over different old contents.
+pub fn code<A: Debug + PartialEq>(
+    test: &mut Test,
+    rooms: &mut Rooms,
+    name: impl Fn() -> String,
+    input: &[u8],
+    length: usize,
+    expected: (A, Vec<u8>),
+    call: impl Fn(&mut [u8], &mut [u8]) -> A,
+) {
+    let (answer, written) = expected;
+    let count = written.len();
+    let ways = BOTH_PLACES.into_iter().zip(old_contents());
+    let calls = ways.map(|(placed, old)| {
+        let lent = input.len();
+        rooms.input.buffer(placed, lent).copy_from_slice(input);
+        rooms.output.bytes().copy_from_slice(old);
+        let answer = rooms.input.lend(placed, lent, |input| {
+            rooms
+                .output
+                .lend(placed, length, |output| call(input, output))
+        });
+        let start = placed.span(length).start;
+        let (before, seen, behind) = parted(rooms.output.bytes(), start, count);
+        let (old_before, _, old_behind) = parted(old, start, count);
+        CodingSeen {
+            answer,
+            first_wrong: first_wrong(&written, seen),
+            rest_unchanged: before == old_before && behind == old_behind,
+            input_unchanged: rooms.input.buffer(placed, lent) == input,
+        }
+    });
+    let expected = CodingSeen {
+        answer,
+        first_wrong: None,
+        rest_unchanged: true,
+        input_unchanged: true,
+    };
+    test.case(name, expected, calls);
+}
+
+fn first_wrong(written: &[u8], seen: &[u8]) -> Option<WrongByte> {
+    let place = (0..written.len()).find(|&place| written[place] != seen[place])?;
+    Some(WrongByte {
+        place,
+        expected: written[place],
+        got: seen[place],
+    })
+}
+
+/// What a writing call is to answer and to write.
+pub fn to_be_written(expected: Result<Vec<u8>, Refusal>) -> (Written, Vec<u8>) {
+    let status = expected.clone().err().unwrap_or(0);
+    let written = expected.unwrap_or_default();
+    let count = written.len() as u32;
+    (Written { status, count }, written)
+}
+
 /// A row for a person to read: bits as digits, other bytes in brackets, a long row cut short.
-fn shown(row: &[u8]) -> String {
+pub fn shown(row: &[u8]) -> String {
     let places = row.iter().take(64).map(|byte| match byte {
         0 | 1 => byte.to_string(),
         _ => format!("<{byte}>"),
@@ -155,7 +260,7 @@ fn shown(row: &[u8]) -> String {
 }
 
 /// A datagram for a person to read, a long one cut short.
-fn shown_datagram(datagram: &[u8]) -> String {
+pub fn shown_datagram(datagram: &[u8]) -> String {
     let start = &datagram[..datagram.len().min(64)];
     format!("datagram {start:?} ({} bytes)", datagram.len())
 }

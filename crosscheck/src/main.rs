@@ -8,6 +8,8 @@ mod archive;
 mod bits;
 mod blocks;
 mod both_ways;
+mod both_ways_blocks;
+mod check_blocks_writing;
 mod check_coding;
 mod check_links;
 mod check_messages;
@@ -53,6 +55,7 @@ fn main() -> ExitCode {
         check_readers::TESTS,
         check_refusals::TESTS,
         check_messages::TESTS,
+        check_blocks_writing::TESTS,
     ]
     .concat();
     let (given, chosen) = match arguments.as_slice() {
