@@ -25,4 +25,4 @@ bench: build/bench
 build/bench: bench/bench.c bench/plain.c bench/plain.h include/decklewren.h
 	mkdir -p build
 	rt staticlib decklewren >build/staticlib.log
-	$(CC) $(CFLAGS) -O3 -Iinclude bench/bench.c bench/plain.c target/staticlib/libdecklewren.a -o $@
+	$(CC) $(CFLAGS) -O3 -pthread -Iinclude bench/bench.c bench/plain.c target/staticlib/libdecklewren.a -o $@

@@ -1,14 +1,15 @@
 /* Compares the library with the plain writer of plain.c, both in one run: nanoseconds per block, median of many rounds, and the
    ratio. Also measures the stack that a call needs, by painting it. */
-#define _POSIX_C_SOURCE 199309L
+#define _POSIX_C_SOURCE 200809L
 #include "decklewren.h"
 #include "plain.h"
+#include <pthread.h>
 #include <stdio.h>
 #include <stdlib.h>
 #include <string.h>
 #include <time.h>
 
-enum { ROUNDS = 301, LONGEST = 12855, PAINTED = 65536 };
+enum { ROUNDS = 301, LONGEST = 12855, PAINTED = 262144 };
 
 static uint8_t datagram[698], plain_image[LONGEST], image[LONGEST];
 
@@ -43,17 +44,24 @@ static void measure(uint32_t link, size_t held, int blocks, double *plain, doubl
     *proved = b[ROUNDS / 2];
 }
 
-__attribute__((noinline)) static void paint(void) {
-    volatile uint8_t stack[PAINTED];
-    for (int i = 0; i < PAINTED; i++) stack[i] = 0xA5;
+static void *call_nothing(void *unused) { return unused; }
+static void *call_write(void *unused) {
+    write_proved(19, 698);
+    return unused;
 }
 
-/* How far down the paint was disturbed. */
-__attribute__((noinline)) static int disturbed(void) {
-    volatile uint8_t stack[PAINTED];
-    int untouched = 0;
-    while (untouched < PAINTED && stack[untouched] == 0xA5) untouched++;
-    return PAINTED - untouched;
+/* How much of a painted stack a thread disturbs that makes one call. */
+static size_t disturbed(void *(*call)(void *)) {
+    static _Alignas(4096) uint8_t stack[PAINTED];
+    pthread_attr_t attributes;
+    pthread_t thread;
+    memset(stack, 0xA5, sizeof stack);
+    pthread_attr_init(&attributes);
+    pthread_attr_setstack(&attributes, stack, sizeof stack);
+    if (pthread_create(&thread, &attributes, call, NULL) != 0 || pthread_join(thread, NULL) != 0) exit(1);
+    size_t untouched = 0;
+    while (untouched < sizeof stack && stack[untouched] == 0xA5) untouched++;
+    return sizeof stack - untouched;
 }
 
 static void compare(uint32_t link, size_t held, int blocks) {
@@ -72,8 +80,6 @@ int main(void) {
     for (size_t i = 0; i < sizeof datagram; i++) datagram[i] = (uint8_t)(i * 37 + 11);
     compare(5, 32, 200);
     compare(19, 698, 10);
-    paint();
-    write_proved(19, 698);
-    printf("stack of a write: %d bytes\n", disturbed());
+    printf("stack of a write: %zu bytes\n", disturbed(call_write) - disturbed(call_nothing));
     return 0;
 }
