@@ -191,8 +191,8 @@ impl Rooms {
     }
 }
 
-/// A call that reads this input and writes to a buffer of this length: it is to give this answer and
-/// to write these bytes. It is made twice, over different old contents.
+/// A call that reads this input and writes to a buffer of this length: it is to give this answer
+/// and to write these bytes. It is made twice, over different old contents.
 pub fn code<A: Debug + PartialEq>(
     test: &mut Test,
     rooms: &mut Rooms,
@@ -251,7 +251,7 @@ pub fn to_be_written(expected: Result<Vec<u8>, Refusal>) -> (Written, Vec<u8>) {
 }
 
 /// A row for a person to read: bits as digits, other bytes in brackets, a long row cut short.
-pub fn shown(row: &[u8]) -> String {
+fn shown(row: &[u8]) -> String {
     let places = row.iter().take(64).map(|byte| match byte {
         0 | 1 => byte.to_string(),
         _ => format!("<{byte}>"),

@@ -1,5 +1,5 @@
-//! The tests of steps through the messages of a datagram: the second implementation against document
-//! 01's cases, and the archive against the second implementation.
+//! The tests of steps through the messages of a datagram: the second implementation against
+//! document 01's cases, and the archive against the second implementation.
 
 use crate::both_ways::step_message;
 use crate::guarded::{Guarded, ROOM};

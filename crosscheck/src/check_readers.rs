@@ -157,8 +157,8 @@ fn second_readers_agree_on_random_bits(given: &Given, test: &mut Test) {
     }
 }
 
-/// The flips that the quick reader tries, against the check of the k bits with each one inverted, in
-/// blocks with one to three wrong bits. One of the first has its first bit wrong, one its last.
+/// The flips that the quick reader tries, against the check of the k bits with each one inverted:
+/// in blocks with the first bit wrong, with the last, and with one to three of them.
 fn second_tries_every_flip_of_the_block(given: &Given, test: &mut Test) {
     let second = Second::read(&given.tables);
     let mut random = test.random(6);

@@ -110,8 +110,8 @@ pub fn reading_blocks(second: &Second) -> Vec<(BlockRequest, Refusal)> {
 pub type SlotRequest = (Vec<u8>, usize);
 
 /// Fewer than 86 bits, then a non-bit among the 86, wrong training, no word near, a word of no slot
-/// burst, the length of the rest, a buffer too short, a non-bit in the rest, and at last bits that no
-/// valid block's image is near to.
+/// burst, the length of the rest, a buffer too short, a non-bit in the rest, and at last bits that
+/// no valid block's image is near to.
 pub fn reading_slots(second: &Second) -> Vec<(SlotRequest, Refusal)> {
     let training = bits(&second.training);
     let word = |number: usize| bits(second.words.of(number));

@@ -52,8 +52,8 @@ pub fn two_places(link: &Link, of_block: usize, random: &mut Random) -> Vec<usiz
     [of_block, others].concat()
 }
 
-/// Link 12: rows with bits over that are not zero, and what reading them answers. With a right check
-/// they belong to no valid block; one of them inverted in the image of a valid block is mended.
+/// Link 12: rows with bits over that are not zero, and what reading them answers. With a right
+/// check they belong to no valid block; one of them inverted in a valid block's image is mended.
 pub fn rows_with_bits_over(
     second: &Second,
     random: &mut Random,
