@@ -18,15 +18,36 @@ use Rattle.scrambler.specs.Scrambler.{cells, output, shifted, after, seq
 use Rattle.scrambler.proofs.Register.{shifted-word, length-shifted, cells-number, number-small}
 use Rattle.scrambler.proofs.Mixed.{mixed-more, mixed-none}
 
-pub record Running (state n : ℕ) (old out : List ℕ) (register i : ℕ) : Type 0 where
+-- n bytes of a buffer where the register has come to the i-th of them: what the rest of its run will make of them
+unfoldable pub whole : (n : ℕ) (out : List ℕ) (register i : ℕ) → List ℕ
+whole n out register i = take i out ++ mixed (sequence (n - i) (cells register)) (drop i out)
+
+-- from one place of a run to a later one
+pub record Running (n : ℕ) (old : List ℕ) (state from : ℕ) (out : List ℕ) (register i : ℕ) : Type 0 where
   pub within : i ≤ n
   pub same : length out ≡ length old
   pub small : register < 2 ^ 15
-  pub bytes : take i out ++ mixed (sequence (n - i) (cells register)) (drop i out) ≡ mixed (sequence n (cells state)) old
-  pub ends : after (n - i) (cells register) ≡ after n (cells state)
+  pub bytes : whole n out register i ≡ whole n old state from
+  pub ends : after (n - i) (cells register) ≡ after (n - from) (cells state)
 
-pub running-start : (state n : ℕ) (old : List ℕ) → state < 2 ^ 15 → Running state n old old state 0
-running-start state n old h = record { within = zero-le; same = refl; small = h; bytes = rw sub-zero; ends = rw sub-zero }
+pub running-start : (n : ℕ) (old : List ℕ) (state from : ℕ) → from ≤ n → state < 2 ^ 15 → Running n old state from old state from
+running-start n old state from w h = record { within = w; same = refl; small = h; bytes = refl; ends = refl }
+
+-- the same place, otherwise written
+pub running-at : {n : ℕ} {old out : List ℕ} {state from register next i k : ℕ} → Running n old state from out register i → next ≡ register → k ≡ i
+    → Running n old state from out next k
+running-at w e p = rw (e, p) w
+
+pub running-join : {n : ℕ} {old mid out : List ℕ} {state from register at next i : ℕ} → Running n old state from mid register at
+    → Running n mid register at out next i → Running n old state from out next i
+running-join v w =
+    record {
+      within = w .within;
+      same = w .same ∙ v .same;
+      small = w .small;
+      bytes = w .bytes ∙ v .bytes;
+      ends = w .ends ∙ v .ends;
+    }
 
 -- ---- one clock
 sequence-more : (i n : ℕ) (row : List Bool) → i < n → sequence (n - i) row ≡ output row ∷ sequence (n - (i + 1)) (shifted row)
@@ -37,10 +58,11 @@ after-more : (i n : ℕ) (row : List Bool) → i < n → after (n - i) row ≡ a
 unfolding after
 after-more i n row h = let left : n - i ≡ suc (n - (i + 1)) = omega arith in rw left
 
-pub running-more : {state n : ℕ} {old out : List ℕ} {register i : ℕ} (bit next : ℕ) → Running state n old out register i → i < n → i < length out
+pub running-more : {n : ℕ} {old out : List ℕ} {state from register i : ℕ} (bit next : ℕ) → Running n old state from out register i → i < n → i < length out
     → bit ≡ byte (output (cells register)) → next ≡ register / 2 + bit * 2 ^ 14
-    → Running state n old (set out i (bitXor (getD out i 0) bit)) next (i + 1)
-running-more {state} {n} {old} {out} {register} {i} bit next w h l b e =
+    → Running n old state from (set out i (bitXor (getD out i 0) bit)) next (i + 1)
+unfolding whole
+running-more {n} {old} {out} {state} {from} {register} {i} bit next w h l b e =
     let row = cells register in
     let new : next ≡ number (shifted row) = e ∙ ap (λ (x : ℕ). register / 2 + x * 2 ^ 14) b ∙ shifted-word register (w .small) in
     let long = length-shifted row (length-highFirst 15 register) in
@@ -59,11 +81,11 @@ running-more {state} {n} {old} {out} {register} {i} bit next w h l b e =
     }
 
 -- ---- the end
-pub running-done : {state n : ℕ} {old out : List ℕ} {register i : ℕ} → Running state n old out register i → n ≤ i → Scrambles state n old out register
-unfolding sequence after
-running-done {state} {n} {old} {out} {register} {i} w h =
+pub running-done : {n : ℕ} {old out : List ℕ} {state register i : ℕ} → Running n old state 0 out register i → n ≤ i → Scrambles state n old out register
+unfolding whole sequence after
+running-done {n} {old} {out} {state} {register} {i} w h =
     let none : n - i ≡ 0 = omega arith in
     record {
-      bytes = rw (none, mixed-none, take-append-drop) at (w .bytes);
-      runs-on = sym (number-highFirst 15 register (w .small)) ∙ ap number (rw none at (w .ends));
+      bytes = rw (none, mixed-none, take-append-drop, sub-zero) at (w .bytes);
+      runs-on = sym (number-highFirst 15 register (w .small)) ∙ ap number (rw (none, sub-zero) at (w .ends));
     }

@@ -17,8 +17,17 @@ pub fn scramble(state: u16, n: usize, out: &mut [u8]) -> u16
     ensures { λ r. ⌜ Scrambles state n (now (out .entry)) (now (out .exit)) r ⌝ }
 {
     let mut register = state;
-    for i in 0..n {
-        // cell 14 plus cell 15; it is fed into cell 1, and the cells move on
+    for group in 0..n / 8 {
+        // cell 14 plus cell 15 of this clock, and of the seven that follow: the cells only move on towards them
+        let sums = (register >> 1) ^ register;
+        for j in 0..8 {
+            let i = group * 8 + j;
+            out[i] = out[i] ^ (((sums >> j) % 2) as u8);
+        }
+        // they are fed into cell 1, one after another
+        register = (register >> 8) + ((sums % 256) << 7);
+    }
+    for i in n / 8 * 8..n {
         let bit = ((register >> 1) ^ register) % 2;
         out[i] = out[i] ^ (bit as u8);
         register = (register >> 1) + (bit << 14);
