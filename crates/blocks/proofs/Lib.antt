@@ -1,4 +1,7 @@
+pub mod BitsOver
 pub mod Blocks
 pub mod Calls
 pub mod Composed
+pub mod Mending
 pub mod Sound
+pub mod Taking

@@ -1,3 +1,4 @@
 pub mod Block
 pub mod Calls
 pub mod Coding
+pub mod Reading

@@ -1,4 +1,9 @@
 // Blocks (document 01, "From datagram to block"): a datagram as the image of its block, and back.
+mod coded;
+mod reader;
+mod received;
+
+pub use reader::read;
 use links::Row;
 ghost use mathlib.Core.Path.{_≡_};
 ghost use mathlib.Core.List.{map};
