@@ -5,3 +5,4 @@ pub mod Composed
 pub mod Mending
 pub mod Sound
 pub mod Taking
+pub mod Unscrambled
