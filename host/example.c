@@ -1,4 +1,3 @@
-/* Writes a link word, puts one wrong bit in, and reads it back. */
 #include "decklewren.h"
 #include <stdio.h>
 

@@ -17,7 +17,10 @@
      2     link word of the wrong length
      3     output buffer too short
      4     a byte neither 0 nor 1
-     6     no code word within seven */
+     6     no code word within seven
+     8     position past the end
+     9     fewer than 3 bytes left, length below 7, or message past the end
+    10     fill holds another byte */
 
 #ifndef DECKLEWREN_H
 #define DECKLEWREN_H
@@ -42,6 +45,13 @@ typedef struct {
     uint32_t wrong;
 } decklewren_word;
 
+/* What a step through a datagram answers: where a message starts and its total length; both are 0 where no more follow. */
+typedef struct {
+    uint32_t status;
+    uint64_t start;
+    uint64_t length;
+} decklewren_step;
+
 /* Writes the link word of a number (M.2092-1, Annex 2, 1.2.3.4).
    In:      number, 0 to 63
    Out:     32 bytes 0 or 1 at the start of out; bytes behind stay
@@ -55,6 +65,13 @@ decklewren_written decklewren_write_word(uint32_t number, uint8_t *out, size_t o
             else, the first of these that applies:
             2 bits_len is not 32, 4 a byte neither 0 nor 1, 6 no code word within seven */
 decklewren_word decklewren_read_word(const uint8_t *bits, size_t bits_len);
+
+/* Finds the message that begins at a position of a datagram (docs/MESSAGES.md has the loop that walks one).
+   In:      datagram, and any position
+   Returns: status 0 with the message's start and total length, or with both 0 where no more follow;
+            else 8 position past the end; then 9 (fewer than 3 bytes left, length below 7, or message past the end)
+            or 10 (fill holds another byte) */
+decklewren_step decklewren_step_message(const uint8_t *datagram, size_t datagram_len, size_t position);
 
 #ifdef __cplusplus
 }

@@ -15,9 +15,22 @@ pub struct WordRead {
     pub wrong: u32,
 }
 
+#[repr(C)]
+#[derive(Clone, Copy, Debug, PartialEq)]
+pub struct Stepped {
+    pub status: u32,
+    pub start: u64,
+    pub length: u64,
+}
+
 extern "C" {
     fn decklewren_write_word(number: u32, out: *mut u8, out_len: usize) -> Written;
     fn decklewren_read_word(bits: *const u8, bits_len: usize) -> WordRead;
+    fn decklewren_step_message(
+        datagram: *const u8,
+        datagram_len: usize,
+        position: usize,
+    ) -> Stepped;
 }
 
 pub fn write_word(number: u32, out: &mut [u8]) -> Written {
@@ -25,8 +38,14 @@ pub fn write_word(number: u32, out: &mut [u8]) -> Written {
     unsafe { decklewren_write_word(number, out.as_mut_ptr(), out.len()) }
 }
 
-/// The row is lent as changeable, so that a call which changes it is seen to do so.
+// What a call reads is lent as changeable, so that a call which changes it is seen to do so.
+
 pub fn read_word(bits: &mut [u8]) -> WordRead {
     // SAFETY: pointer and length are those of one slice, lent for the call.
     unsafe { decklewren_read_word(bits.as_mut_ptr(), bits.len()) }
+}
+
+pub fn step_message(datagram: &mut [u8], position: usize) -> Stepped {
+    // SAFETY: pointer and length are those of one slice, lent for the call.
+    unsafe { decklewren_step_message(datagram.as_mut_ptr(), datagram.len(), position) }
 }

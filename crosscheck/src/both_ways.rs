@@ -1,10 +1,12 @@
 //! Makes the calls of a case: first with the buffer against the guard before it, then against the
 //! guard behind it, and when writing each time over different old contents.
 
-use crate::archive::{self, WordRead, Written};
-use crate::guarded::{Guarded, Placed, BOTH_PLACES, ROOM};
+use crate::archive::{self, Stepped, WordRead, Written};
+use crate::guarded::{Guarded, BOTH_PLACES, ROOM};
+use crate::messages::Step;
 use crate::report::Test;
 use crate::words::{Reading, Refusal};
+use std::fmt::Debug;
 
 /// What is seen of a writing call: its answer, the bytes it was to write, and whether every other
 /// byte of the room, in the buffer and around it, is as it was.
@@ -17,8 +19,8 @@ struct WritingSeen {
 
 /// What is seen of a reading call.
 #[derive(Debug, PartialEq)]
-struct ReadingSeen {
-    answer: WordRead,
+struct ReadingSeen<A> {
+    answer: A,
     row_unchanged: bool,
 }
 
@@ -82,59 +84,65 @@ pub fn read_word(
     row: &[u8],
     expected: Result<Reading, Refusal>,
 ) {
-    read(test, room, row, expected, |room, placed| {
-        archive::read_word(room.buffer(placed, row.len()))
-    });
+    let name = || format!("read_word, row {}", shown(row));
+    let answer = match expected {
+        Ok(Reading { number, wrong }) => WordRead {
+            status: 0,
+            number,
+            wrong,
+        },
+        Err(status) => WordRead {
+            status,
+            number: 0,
+            wrong: 0,
+        },
+    };
+    read(test, room, name, row, answer, archive::read_word);
 }
 
-/// As `read_word`, with the whole room read-only while the call is made.
-pub fn read_read_only_word(
+pub fn step_message(
     test: &mut Test,
     room: &mut Guarded,
-    row: &[u8],
-    expected: Result<Reading, Refusal>,
+    datagram: &[u8],
+    position: usize,
+    expected: Result<Step, Refusal>,
 ) {
-    read(test, room, row, expected, |room, placed| {
-        room.read_only();
-        let answer = archive::read_word(room.buffer(placed, row.len()));
-        room.writable();
-        answer
+    let name = || format!("step_message at {position}, {}", shown_datagram(datagram));
+    let (status, start, length) = match expected {
+        Ok(Step::Finished) => (0, 0, 0),
+        Ok(Step::Message { start, length }) => (0, start as u64, length as u64),
+        Err(status) => (status, 0, 0),
+    };
+    let answer = Stepped {
+        status,
+        start,
+        length,
+    };
+    read(test, room, name, datagram, answer, |datagram| {
+        archive::step_message(datagram, position)
     });
 }
 
-fn read(
+fn read<A: Debug + PartialEq>(
     test: &mut Test,
     room: &mut Guarded,
+    name: impl Fn() -> String,
     row: &[u8],
-    expected: Result<Reading, Refusal>,
-    call: impl Fn(&mut Guarded, Placed) -> WordRead,
+    answer: A,
+    call: impl Fn(&mut [u8]) -> A,
 ) {
     let calls = BOTH_PLACES.into_iter().map(|placed| {
         room.buffer(placed, row.len()).copy_from_slice(row);
         ReadingSeen {
-            answer: call(room, placed),
+            answer: room.lend(placed, row.len(), &call),
             row_unchanged: room.buffer(placed, row.len()) == row,
         }
     });
-    let call = || format!("read_word, row {}", shown(row));
-    test.case(call, to_be_seen(expected), calls);
-}
-
-fn to_be_seen(expected: Result<Reading, Refusal>) -> ReadingSeen {
-    let nothing = Reading {
-        number: 0,
-        wrong: 0,
-    };
-    let status = expected.err().unwrap_or(0);
-    let Reading { number, wrong } = expected.unwrap_or(nothing);
-    ReadingSeen {
-        answer: WordRead {
-            status,
-            number,
-            wrong,
-        },
+    let expected = ReadingSeen {
+        answer,
         row_unchanged: true,
-    }
+    };
+    test.case(name, expected, calls);
 }
 
 /// A row for a person to read: bits as digits, other bytes in brackets, a long row cut short.
@@ -144,4 +152,10 @@ fn shown(row: &[u8]) -> String {
         _ => format!("<{byte}>"),
     });
     format!("{} ({} bytes)", places.collect::<String>(), row.len())
+}
+
+/// A datagram for a person to read, a long one cut short.
+fn shown_datagram(datagram: &[u8]) -> String {
+    let start = &datagram[..datagram.len().min(64)];
+    format!("datagram {start:?} ({} bytes)", datagram.len())
 }

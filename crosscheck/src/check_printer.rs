@@ -1,10 +1,11 @@
 //! The tests of the built link word printer (document 01, "The link word printer"). Every byte
 //! before the first newline is one character of the line, a carriage return too.
 
+use crate::bits::{bits, inverted};
 use crate::program::{run, Input, Run};
 use crate::report::{named_tests, Given, NamedTest, Test};
 use crate::tables::Tables;
-use crate::words::{bits, inverted, Reading, Words};
+use crate::words::{Reading, Words};
 
 pub const TESTS: &[NamedTest] = named_tests![
     printer_prints_the_example,

@@ -1,11 +1,12 @@
 //! The tests of link words: the second implementation against the printed Table 3 and document
 //! 01's cases, and the archive against the second implementation.
 
-use crate::both_ways::{read_read_only_word, read_word, write_word, write_word_over};
+use crate::bits::{bits, inverted};
+use crate::both_ways::{read_word, write_word, write_word_over};
 use crate::guarded::{Guarded, ROOM};
 use crate::report::{named_tests, Given, NamedTest, Test};
 use crate::tables::{digits, Tables};
-use crate::words::{bits, differing_places, inverted, Reading, Refusal, Word, Words, PLACES};
+use crate::words::{differing_places, Reading, Refusal, Word, Words, PLACES};
 
 pub const TESTS: &[NamedTest] = named_tests![
     second_words_equal_table_3,
@@ -251,17 +252,17 @@ fn archive_orders_refusals(given: &Given, test: &mut Test) {
 
 fn archive_reads_read_only_pages(given: &Given, test: &mut Test) {
     let words = words(given);
-    let mut room = Guarded::new();
+    let mut room = Guarded::read_only_in_calls();
     let mut random = test.random(302);
     for number in 0..64 {
         for count in 0..=12 {
             let row = inverted(&bits(words.of(number)), &random.places(count, PLACES));
-            read_read_only_word(test, &mut room, &row, words.read(&row));
+            read_word(test, &mut room, &row, words.read(&row));
         }
     }
     for length in 0..=40 {
         for row in [random.bits(length), vec![255; length]] {
-            read_read_only_word(test, &mut room, &row, words.read(&row));
+            read_word(test, &mut room, &row, words.read(&row));
         }
     }
 }

@@ -47,28 +47,48 @@ impl Placed {
 
 pub struct Guarded {
     mapping: *mut u8,
+    read_only_in_calls: bool,
 }
 
 impl Guarded {
+    /// A room that may be written to at all times.
     pub fn new() -> Guarded {
+        Guarded::mapped(false)
+    }
+
+    /// A room that is read-only while a call is made: whoever then writes to it ends the process.
+    pub fn read_only_in_calls() -> Guarded {
+        Guarded::mapped(true)
+    }
+
+    fn mapped(read_only_in_calls: bool) -> Guarded {
         let flags = MAP_PRIVATE | MAP_ANONYMOUS;
         // SAFETY: a new mapping of its own, at an address the system chooses.
         let mapping = unsafe { mmap(ptr::null_mut(), 3 * ROOM, PROT_NONE, flags, -1, 0) };
         assert!(mapping as isize != -1, "no memory for the guarded room");
         let mut guarded = Guarded {
             mapping: mapping.cast(),
+            read_only_in_calls,
         };
-        guarded.writable();
+        guarded.protect(PROT_READ | PROT_WRITE);
         guarded
     }
 
-    pub fn writable(&mut self) {
-        self.protect(PROT_READ | PROT_WRITE);
-    }
-
-    /// From here until `writable`, whoever writes to the room ends the process.
-    pub fn read_only(&mut self) {
-        self.protect(PROT_READ);
+    /// Makes a call with the buffer of this length at this place.
+    pub fn lend<A>(
+        &mut self,
+        placed: Placed,
+        length: usize,
+        call: impl FnOnce(&mut [u8]) -> A,
+    ) -> A {
+        if self.read_only_in_calls {
+            self.protect(PROT_READ);
+        }
+        let answer = call(self.buffer(placed, length));
+        if self.read_only_in_calls {
+            self.protect(PROT_READ | PROT_WRITE);
+        }
+        answer
     }
 
     fn protect(&mut self, protection: c_int) {

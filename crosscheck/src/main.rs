@@ -5,22 +5,56 @@
 //! `traced` behind the name prints each call before it is made.
 
 mod archive;
+mod bits;
+mod blocks;
 mod both_ways;
+mod check_coding;
+mod check_links;
+mod check_messages;
 mod check_printer;
+mod check_readers;
+mod check_refusals;
 mod check_words;
+mod check_worked_burst;
+mod crc;
+mod datagrams;
+mod encoder;
 mod guarded;
+mod images;
+mod interleaver;
+mod link_tables;
+mod links;
+mod messages;
+mod ordered_faults;
 mod program;
 mod random;
+mod readers;
 mod report;
+mod samples;
+mod scrambler;
+mod second;
+mod slots;
 mod tables;
+mod training;
 mod words;
+mod worked_burst;
 
 use report::Given;
 use std::{env, process::ExitCode};
 
 fn main() -> ExitCode {
     let arguments: Vec<String> = env::args().skip(1).collect();
-    let tests = [check_words::TESTS, check_printer::TESTS].concat();
+    let tests = [
+        check_words::TESTS,
+        check_printer::TESTS,
+        check_links::TESTS,
+        check_coding::TESTS,
+        check_worked_burst::TESTS,
+        check_readers::TESTS,
+        check_refusals::TESTS,
+        check_messages::TESTS,
+    ]
+    .concat();
     let (given, chosen) = match arguments.as_slice() {
         [tables, printer, chosen @ ..] => (Given::new(tables, printer), chosen),
         _ => return wrong_use(),

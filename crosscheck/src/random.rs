@@ -27,9 +27,19 @@ impl Random {
         (0..length).map(|_| self.below(2) as u8).collect()
     }
 
+    pub fn bytes(&mut self, length: usize) -> Vec<u8> {
+        (0..length).map(|_| self.below(256) as u8).collect()
+    }
+
     /// `count` different places, each below `bound`.
     pub fn places(&mut self, count: usize, bound: usize) -> Vec<usize> {
-        let mut left: Vec<usize> = (0..bound).collect();
+        let all: Vec<usize> = (0..bound).collect();
+        self.chosen(count, &all)
+    }
+
+    /// `count` of these, each at most once.
+    pub fn chosen(&mut self, count: usize, of: &[usize]) -> Vec<usize> {
+        let mut left = of.to_vec();
         (0..count)
             .map(|_| left.swap_remove(self.below(left.len())))
             .collect()

@@ -1,6 +1,7 @@
 //! Reads the printed tables of M.2092-1 as they were copied from the document: each row stands
 //! after its line number, and a row that is not just as expected is an error.
 
+use crate::bits::from_digits;
 use crate::words::{Word, Words, PLACES};
 use std::fs;
 use std::path::Path;
@@ -14,11 +15,7 @@ pub struct Tables {
 impl Tables {
     /// Reads the tables, or fails the running test with the row at fault.
     pub fn read(folder: &Path) -> Tables {
-        let rows = |name: &str| {
-            fs::read_to_string(folder.join(name))
-                .map_err(|error| error.to_string())
-                .and_then(|text| numbered_rows(&text))
-        };
+        let rows = |name| rows(folder, name);
         let parsed = || -> Result<Tables, String> {
             Ok(Tables {
                 generator: generator_rows(&rows("table2.txt")?)?,
@@ -33,6 +30,14 @@ impl Tables {
     pub fn words(&self) -> Words {
         Words::new(&self.generator, &self.scrambling)
     }
+}
+
+/// The rows of the file of this name.
+pub fn rows(folder: &Path, name: &str) -> Result<Vec<String>, String> {
+    fs::read_to_string(folder.join(name))
+        .map_err(|error| error.to_string())
+        .and_then(|text| numbered_rows(&text))
+        .map_err(|error| format!("{name}: {error}"))
 }
 
 /// The rows without their line numbers, which must rise; a line that opens with # is a remark.
@@ -107,14 +112,7 @@ fn pairs(printed: &str) -> Result<Word, String> {
 
 /// A word written as 32 binary digits.
 pub fn digits(written: &str) -> Result<Word, String> {
-    let bits: Option<Vec<bool>> = written
-        .chars()
-        .map(|c| match c {
-            '0' => Some(false),
-            '1' => Some(true),
-            _ => None,
-        })
-        .collect();
-    bits.and_then(|bits| bits.try_into().ok())
-        .ok_or(format!("not 32 binary digits: {written:?}"))
+    from_digits(written)?
+        .try_into()
+        .map_err(|_| format!("not 32 binary digits: {written:?}"))
 }

@@ -1,5 +1,7 @@
 //! The second implementation of link words (M.2092-1, Annex 2, 1.2.3.4; document 01, "Link words").
 
+use crate::bits::bits;
+
 pub const PLACES: usize = 32;
 
 pub type Word = [bool; PLACES];
@@ -82,21 +84,7 @@ fn wrong_places(word: &Word, row: &[u8]) -> u32 {
     wrong
 }
 
-/// A word as bits one to a byte, the first printed bit first.
-pub fn bits(word: &Word) -> Vec<u8> {
-    word.iter().map(|&bit| if bit { 1 } else { 0 }).collect()
-}
-
 /// The places where two words differ, in order.
 pub fn differing_places(one: &Word, other: &Word) -> Vec<usize> {
     (0..PLACES).filter(|&p| one[p] != other[p]).collect()
-}
-
-/// The row with the bits at these places inverted.
-pub fn inverted(row: &[u8], places: &[usize]) -> Vec<u8> {
-    let mut row = row.to_vec();
-    for &place in places {
-        row[place] = 1 - row[place];
-    }
-    row
 }

@@ -1,11 +1,13 @@
 -- The exclusive or of numbers is a sum in which every term is its own opposite.
 -- Assumes nothing.
 use mathlib.Core.Path.{_≡_, refl, sym, ap, ap₂, _∙_}
+use mathlib.Core.Bool.{Bool, true, false, xor}
 use Prim.Native.Nat.{ℕ, zero, suc, _+_, _*_, _/_, _%_, _^_, _<_}
 use native.Mathlib.Nat.{add-zero, zero-mul, mod-lt, zero-lt-suc}
 use native.Mathlib.Omega.{arith}
 use lib.Arith.{bin-ind, digits-mod}
 use lib.Bits.{bitXor, differ, xor-step, xor-zero-r, xor-comm, xor-self, xor-shr, xor-mod, xor-block, xor-lt}
+use Rattle.bits.specs.Bits.{byte}
 use Rattle.bits.specs.Xor.{_⊕_}
 
 -- ---- digit by digit
@@ -78,6 +80,14 @@ pub ⊕-middle : (a b c d : ℕ) → (a ⊕ b) ⊕ (c ⊕ d) ≡ (a ⊕ c) ⊕ (
 -- two terms whose sum is 0 are equal
 pub ⊕-equal : (a b : ℕ) → a ⊕ b ≡ 0 → a ≡ b
 ⊕-equal a b e = sym (⊕-zero a) ∙ ap (λ (x : ℕ). a ⊕ x) (sym (⊕-self b)) ∙ sym (⊕-assoc a b b) ∙ ap (λ (x : ℕ). x ⊕ b) e ∙ zero-⊕ b
+
+-- two bits
+pub ⊕-bits : (x y : Bool) → byte x ⊕ byte y ≡ byte (xor x y)
+unfolding _⊕_ xor
+⊕-bits true true = refl
+⊕-bits true false = refl
+⊕-bits false true = refl
+⊕-bits false false = refl
 
 -- ---- shifted, and one digit of it
 pub ⊕-double : (a b : ℕ) → (a ⊕ b) * 2 ≡ (a * 2) ⊕ (b * 2)

@@ -9,7 +9,7 @@ use native.Mathlib.Omega.{arith}
 use lib.Dec.{T}
 use lib.ListN.{length, take, drop, length-append, length-map}
 use lib.Seq.{take-at}
-use Rattle.lists.specs.Over.{over}
+use Rattle.lists.specs.Over.{over, Lays}
 use Rattle.lists.proofs.Over.{over-zero, over-over, over-all}
 use Rattle.bits.specs.Bits.{isOne, byte}
 use Rattle.bits.specs.Row.{highFirst}
@@ -22,7 +22,11 @@ use Rattle.links.specs.declared.Row.{Row}
 use Rattle.links.specs.Good.{goodRow}
 use Rattle.links.specs.Sizes.{openBits}
 use Rattle.links.proofs.Facts.{sizes}
-use Rattle.blocks.specs.Block.{opening, blockOf}
+use Rattle.turbo.specs.Coded.{coded}
+use Rattle.scrambler.specs.Scrambler.{loadingWord, loaded, scrambledBy, Scrambles}
+use Rattle.scrambler.proofs.Calls.{scrambles-row}
+use Rattle.scrambler.proofs.Sequence.{length-scrambledBy}
+use Rattle.blocks.specs.Block.{opening, blockOf, imageOf}
 
 -- the datagram's bits, zero-filled, and then their check
 module _ (row : Row) (good : T (goodRow row)) (datagram old : List ℕ) (size : length old ≡ row .k) where
@@ -58,3 +62,15 @@ module _ (row : Row) (good : T (goodRow row)) (datagram old : List ℕ) (size : 
       ∙ ap (λ (w : ℕ). over (row .k - 32) (map byte (highFirst 32 w)) opened) told
       ∙ ap (over (row .k - 32) (map byte (checkBits (opening row datagram)))) o
       ∙ block-laid
+
+-- the coded bits, and then the scrambler over them
+pub image-composed : (row : Row) (u : List Bool) (old coded-out new : List ℕ) (n state register : ℕ) → Lays 0 (map byte (coded row u)) old coded-out n → state ≡ loadingWord
+    → Scrambles state n coded-out new register → Lays 0 (map byte (imageOf row u)) old new n
+unfolding imageOf
+image-composed row u old coded-out new n state register l e s =
+    let bits = coded row u in
+    let rest = drop (length (map byte bits)) old in
+    let long : length bits ≡ n = sym (l .0 ∙ zero-add (length (map byte bits)) ∙ length-map bits byte) in
+    let same : length (map byte (scrambledBy loaded bits)) ≡ length (map byte bits) = length-map (scrambledBy loaded bits) byte ∙ length-scrambledBy loaded bits ∙ sym (length-map bits byte) in
+    let mixed-out = rw e at (scrambles-row s bits rest (l .1 ∙ over-zero (map byte bits) old) long) in
+    (l .0 ∙ rw same, mixed-out ∙ ap (λ (m : ℕ). map byte (scrambledBy loaded bits) ++ drop m old) (sym same) ∙ sym (over-zero (map byte (scrambledBy loaded bits)) old))

@@ -1,8 +1,13 @@
+pub mod Answered
 pub mod BitsOver
 pub mod Blocks
 pub mod Calls
+pub mod Cleared
 pub mod Composed
+pub mod Exact
 pub mod Mending
 pub mod Sound
 pub mod Taking
 pub mod Unscrambled
+pub mod WaysOfReading
+pub mod WaysOfWriting

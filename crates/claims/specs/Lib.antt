@@ -1,3 +1,4 @@
+pub mod Blocks
 pub mod Cases
 pub mod Messages
 pub mod Words

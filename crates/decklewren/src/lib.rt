@@ -6,6 +6,7 @@ ghost use mathlib.Core.Path.{_≡_};
 ghost use lib.ListN.{length};
 ghost use Rattle.answers.specs.Outcome.{Wrote};
 ghost use Rattle.messages.specs.Step.{stepMessage};
+ghost use Rattle.blocks.specs.Calls.{writeBlock};
 ghost use Rattle.words.specs.Calls.{writeWord, readWord};
 
 #[no_mangle]
@@ -27,4 +28,11 @@ pub extern "C" fn decklewren_step_message(datagram: &[u8], position: usize) -> S
     ensures { λ r. ⌜ r ≡ stepMessage (now (datagram .entry)) position ⌝ }
 {
     messages::step_message(datagram, position)
+}
+
+#[no_mangle]
+pub extern "C" fn decklewren_write_block(link: u32, datagram: &[u8], out: &mut [u8]) -> Written
+    ensures { λ r. ⌜ Wrote (writeBlock link (now (datagram .entry)) (length (now (out .entry)))) (now (out .entry)) (now (out .exit)) r ⌝ }
+{
+    blocks::write(link, datagram, out)
 }

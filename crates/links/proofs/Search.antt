@@ -1,6 +1,6 @@
 -- A link's row is searched for in the table row by row.
 -- Assumes nothing.
-use mathlib.Core.Path.{_≡_, refl, _∙_}
+use mathlib.Core.Path.{_≡_, refl, ap, _∙_}
 use mathlib.Core.Bool.{Bool, true, false, cond}
 use mathlib.Core.List.{List, [], _∷_}
 use Prim.Native.Nat.{ℕ, suc, _+_, _≤_, _<_, zero-le}
@@ -73,3 +73,15 @@ place-unoffered link h = le-ltb (place link) (length rows) h
 pub row-link : (link : ℕ) → offered link ≡ true → rowOf link .link ≡ link
 unfolding rowOf
 row-link link e = place-link rows link (offered-place link e)
+
+-- ---- what a caller learns from the place that was found
+module _ (link : ℕ) {at : ℕ} (found : at ≡ place link) where
+  pub found-offered : at < 22 → offered link ≡ true
+  found-offered h = place-offered link (omega (arith, found, row-count))
+
+  pub found-none : 22 ≤ at → offered link ≡ false
+  found-none h = place-unoffered link (omega (arith, found, row-count))
+
+  pub found-row : getD rows at noRow ≡ rowOf link
+  unfolding rowOf
+  found-row = ap (λ (i : ℕ). getD rows i noRow) found

@@ -51,7 +51,10 @@ pub start : (old : List ℕ) (from : ℕ) (goal : List ℕ) → Room from goal o
 start old from goal h = record { finish = refl; ends = refl; long = refl; room = h }
 
 module _ {old : List ℕ} {from : ℕ} {goal out : List ℕ} {at : ℕ} {rest : List ℕ} where
-  -- there is room for the next piece, and for the next element
+  -- there is room for all that is left, for the next piece, and for the next element
+  pub fits-rest : Laying old from goal out at rest → Room at rest out
+  fits-rest w = omega (arith, w .ends, w .long, w .room)
+
   pub fits-piece : (p rest' : List ℕ) → Laying old from goal out at rest → rest ≡ p ++ rest' → Room at p out
   fits-piece p rest' w e = omega (arith, ap length e, length-append p rest', w .ends, w .long, w .room)
 
@@ -79,6 +82,17 @@ module _ {old : List ℕ} {from : ℕ} {goal out : List ℕ} {at : ℕ} {rest : 
   -- at its end nothing is left
   pub done : Laying old from goal out at rest → rest ≡ [] → Lays from goal old out at
   done w e = (omega (arith, ap length e, w .ends), sym (over-nil at out) ∙ rw (← e) (w .finish))
+
+-- two calls in a row lay two pieces
+module _ (at : ℕ) (p q old : List ℕ) {goal : List ℕ} (e : goal ≡ p ++ q) (room : Room at goal old) where
+  pub first-fits : Room at p old
+  first-fits = fits-piece p q (start old at goal room) e
+
+  pub second-fits : {mid : List ℕ} {between : ℕ} → Lays at p old mid between → Room between q mid
+  second-fits first = fits-rest (more-piece p q (start old at goal room) e first)
+
+  pub both-laid : {mid new : List ℕ} {between end : ℕ} → Lays at p old mid between → Lays between q mid new end → Lays at goal old new end
+  both-laid first second = last (more-piece p q (start old at goal room) e first) second
 
 -- what is as long as what stood there takes its place whole
 pub over-all : (p old : List ℕ) → length p ≡ length old → over 0 p old ≡ p

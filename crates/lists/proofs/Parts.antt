@@ -1,10 +1,10 @@
 -- Parts of lists: what take, drop, map and replicate do to each other.
 -- Assumes nothing.
-use mathlib.Core.Path.{_≡_, refl, ap, _∙_}
+use mathlib.Core.Path.{_≡_, refl, ap}
 use mathlib.Core.List.{List, [], _∷_, map}
 use Prim.Native.Nat.{ℕ, zero, suc, _-_, _≤_}
 use native.Mathlib.Nat.{sub-zero, zero-sub, suc-sub-suc, le-of-suc-le-suc, not-suc-le-zero, le-of-eq}
-use lib.ListN.{length, getD, take, drop, replicate, length-drop}
+use lib.ListN.{length, take, drop, replicate, length-drop}
 use lib.Seq.{take-all, take-nil}
 
 module _ {A : Type 0} where

@@ -1,39 +1,33 @@
 -- The register as a number, clock by clock.
 -- Assumes nothing.
-use mathlib.Core.Path.{_≡_, refl, sym, ap, ap₂, _∙_}
-use mathlib.Core.Bool.{Bool, true, false, xor}
-use mathlib.Core.List.{List, [], _∷_}
+use mathlib.Core.Path.{_≡_, sym, ap, ap₂, _∙_}
+use mathlib.Core.Bool.{Bool, false, xor}
+use mathlib.Core.List.{List}
 use Prim.Native.Nat.{ℕ, zero, suc, _+_, _*_, _/_, _%_, _^_, _<_}
-use native.Mathlib.Nat.{mod-lt, zero-lt-suc, div-one}
+use native.Mathlib.Nat.{div-one}
 use native.Mathlib.Omega.{arith}
 use lib.Bits.{bitXor, xor-mod}
 use lib.ListN.{length, getD, take}
 use lib.Seq.{length-take-le}
 use Rattle.bits.specs.Bits.{isOne, byte}
-use Rattle.bits.specs.Row.{highFirst, number}
-use Rattle.bits.proofs.Bits.{byte-lt}
+use Rattle.bits.specs.Row.{number}
+use Rattle.bits.proofs.Bits.{byte-isOne}
+use Rattle.bits.proofs.Xor.{⊕-is, ⊕-bits}
 use Rattle.bits.proofs.Row.{length-highFirst, highFirst-at, take-highFirst, number-first, number-highFirst, highFirst-number, number-lt}
 use Rattle.scrambler.specs.Scrambler.{cells, output, shifted, after}
 
--- two digits added
-digits : (x y : ℕ) → x < 2 → y < 2 → bitXor x y ≡ byte (xor (isOne y) (isOne x))
-unfolding xor
-digits zero zero h l = refl
-digits zero (suc zero) h l = refl
-digits (suc zero) zero h l = refl
-digits (suc zero) (suc zero) h l = refl
-digits zero (suc (suc y)) h l = absurd (omega arith)
-digits (suc zero) (suc (suc y)) h l = absurd (omega arith)
-digits (suc (suc x)) y h l = absurd (omega arith)
-
 -- the two lowest digits are cells 14 and 15
-pub output-word : (r : ℕ) → bitXor r (r / 2) % 2 ≡ byte (output (cells r))
+pub output-word : (r : ℕ) → bitXor (r / 2) r % 2 ≡ byte (output (cells r))
 unfolding output
 output-word r =
-    let last : isOne (r % 2) ≡ getD (cells r) 14 false = sym (highFirst-at 15 r 14 (omega arith) ∙ ap (λ (x : ℕ). isOne (x % 2)) (div-one r)) in
-    xor-mod r (r / 2) 1
-    ∙ digits (r % 2) (r / 2 % 2) (mod-lt r (zero-lt-suc 1)) (mod-lt (r / 2) (zero-lt-suc 1))
-    ∙ ap₂ (λ (x y : Bool). byte (xor x y)) (sym (highFirst-at 15 r 13 (omega arith))) last
+    let x = r / 2 % 2 in
+    let y = r % 2 in
+    let last : isOne y ≡ getD (cells r) 14 false = sym (highFirst-at 15 r 14 (omega arith) ∙ ap (λ (d : ℕ). isOne (d % 2)) (div-one r)) in
+    xor-mod (r / 2) r 1
+    ∙ sym (ap₂ bitXor (byte-isOne x (omega arith)) (byte-isOne y (omega arith)))
+    ∙ ⊕-is (byte (isOne x)) (byte (isOne y))
+    ∙ ⊕-bits (isOne x) (isOne y)
+    ∙ ap₂ (λ (a b : Bool). byte (xor a b)) (sym (highFirst-at 15 r 13 (omega arith))) last
 
 -- what is fed in is the highest digit of the next register
 pub shifted-word : (r : ℕ) → r < 2 ^ 15 → r / 2 + byte (output (cells r)) * 2 ^ 14 ≡ number (shifted (cells r))

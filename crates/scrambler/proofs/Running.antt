@@ -2,7 +2,7 @@
 -- Assumes nothing.
 use mathlib.Core.Path.{_≡_, refl, sym, ap, _∙_}
 use mathlib.Core.Bool.{Bool}
-use mathlib.Core.List.{List, [], _∷_, _++_}
+use mathlib.Core.List.{List, _∷_, _++_}
 use Prim.Native.Nat.{ℕ, suc, _+_, _-_, _*_, _/_, _^_, _<_, _≤_, zero-le}
 use native.Mathlib.Nat.{sub-zero}
 use native.Mathlib.Omega.{arith}
@@ -12,7 +12,7 @@ use Rattle.lists.proofs.Edit.{edit-more}
 use Rattle.bits.specs.Bits.{byte}
 use Rattle.bits.specs.Row.{number}
 use Rattle.bits.specs.Xor.{_⊕_}
-use Rattle.bits.proofs.Xor.{⊕-is}
+use Rattle.bits.proofs.Xor.{⊕-is, ⊕-comm}
 use Rattle.bits.proofs.Row.{length-highFirst, number-highFirst}
 use Rattle.scrambler.specs.Scrambler.{cells, output, shifted, after, sequence, mixed, Scrambles}
 use Rattle.scrambler.proofs.Register.{shifted-word, length-shifted, cells-number, number-small}
@@ -29,16 +29,13 @@ pub running-start : (state n : ℕ) (old : List ℕ) → state < 2 ^ 15 → Runn
 running-start state n old h = record { within = zero-le; same = refl; small = h; bytes = rw sub-zero; ends = rw sub-zero }
 
 -- ---- one clock
-left : (i n : ℕ) → i < n → n - i ≡ suc (n - (i + 1))
-left i n h = omega arith
-
 sequence-more : (i n : ℕ) (row : List Bool) → i < n → sequence (n - i) row ≡ output row ∷ sequence (n - (i + 1)) (shifted row)
 unfolding sequence
-sequence-more i n row h = rw (left i n h)
+sequence-more i n row h = let left : n - i ≡ suc (n - (i + 1)) = omega arith in rw left
 
 after-more : (i n : ℕ) (row : List Bool) → i < n → after (n - i) row ≡ after (n - (i + 1)) (shifted row)
 unfolding after
-after-more i n row h = rw (left i n h)
+after-more i n row h = let left : n - i ≡ suc (n - (i + 1)) = omega arith in rw left
 
 pub running-more : {state n : ℕ} {old out : List ℕ} {register i : ℕ} (bit next : ℕ) → Running state n old out register i → i < n → i < length out
     → bit ≡ byte (output (cells register)) → next ≡ register / 2 + bit * 2 ^ 14
@@ -50,7 +47,7 @@ running-more {state} {n} {old} {out} {register} {i} bit next w h l b e =
     let moved : cells next ≡ shifted row = ap cells new ∙ cells-number (shifted row) long in
     let v = bitXor (getD out i 0) bit in
     let rest = sequence (n - (i + 1)) (shifted row) in
-    let added : v ≡ getD out i 0 ⊕ byte (output row) = ⊕-is (getD out i 0) bit ∙ ap (λ (x : ℕ). getD out i 0 ⊕ x) b in
+    let added : v ≡ byte (output row) ⊕ getD out i 0 = ⊕-is (getD out i 0) bit ∙ ⊕-comm (getD out i 0) bit ∙ ap (λ (x : ℕ). x ⊕ getD out i 0) b in
     record {
       within = omega arith;
       same = simp length-set (w .same);

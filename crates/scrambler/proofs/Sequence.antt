@@ -1,11 +1,11 @@
 -- The sequence: its length, and that it runs on; scrambling twice gives the row back.
 -- Assumes nothing.
-use mathlib.Core.Path.{_≡_, refl, sym, ap, ap₂, _∙_}
+use mathlib.Core.Path.{_≡_, refl, sym, ap}
 use mathlib.Core.Bool.{Bool, xor}
 use mathlib.Core.List.{List, [], _∷_, _++_}
 use Prim.Native.Nat.{ℕ, zero, suc, _+_}
 use native.Mathlib.Nat.{zero-add, suc-add, le-of-eq}
-use lib.ListN.{length, length-append}
+use lib.ListN.{length}
 use Rattle.bits.specs.Xor.{xorRows}
 use Rattle.bits.proofs.XorRows.{length-xorRows, xorRows-twice}
 use Rattle.scrambler.specs.Scrambler.{output, shifted, after, sequence, scrambledBy}

@@ -49,7 +49,7 @@ scrambled row = scrambledBy loaded row
 unfoldable pub mixed : List Bool → List ℕ → List ℕ
 mixed [] bytes = bytes
 mixed (k ∷ key) [] = []
-mixed (k ∷ key) (x ∷ bytes) = (x ⊕ byte k) ∷ mixed key bytes
+mixed (k ∷ key) (x ∷ bytes) = (byte k ⊕ x) ∷ mixed key bytes
 
 -- n bytes of a buffer have the sequence added, and the answer is the register that runs on
 pub record Scrambles (state n : ℕ) (old new : List ℕ) (register : ℕ) : Type 0 where

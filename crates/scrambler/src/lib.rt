@@ -19,7 +19,7 @@ pub fn scramble(state: u16, n: usize, out: &mut [u8]) -> u16
     let mut register = state;
     for i in 0..n {
         // cell 14 plus cell 15; it is fed into cell 1, and the cells move on
-        let bit = (register ^ (register >> 1)) % 2;
+        let bit = ((register >> 1) ^ register) % 2;
         out[i] = out[i] ^ (bit as u8);
         register = (register >> 1) + (bit << 14);
     }

@@ -14,9 +14,12 @@ unfoldable pub doubled : List Bool → List Bool
 doubled [] = []
 doubled (b ∷ symbols) = b ∷ b ∷ doubled symbols
 
--- the 27 training symbols, 54 bits
+-- the 27 training symbols, and their 54 bits
+unfoldable pub symbols : List Bool
+symbols = highFirst 27 0b111111001101010000011001010
+
 unfoldable pub training : List Bool
-training = doubled (highFirst 27 0b111111001101010000011001010)
+training = doubled symbols
 
 -- the bits of the training, and of the head: training and link word
 abbrev pub trainingLength : ℕ

@@ -1,4 +1,5 @@
 // Slot bursts (M.2092-1, Annex 3, Table 23; document 01, "Slot bursts"): training, link word and block.
+mod training;
 
 // What reading a slot burst answers: what reading its block does, its link, and the link word's own wrong.
 #[repr(C)]

@@ -9,7 +9,7 @@ use Rattle.links.specs.Patterns.{flags}
 use Rattle.links.specs.Rows.{rows, placeIn, rowOf}
 use Rattle.turbo.specs.Encoder.{start, next, y0, y1}
 use Rattle.turbo.specs.Interleaver.{position}
-use Rattle.turbo.specs.Coded.{passed, endingOfFirst}
+use Rattle.turbo.specs.Coded.{passed, alone, endingOf}
 use Rattle.turbo.specs.Outputs.{outputs}
 
 pub p7-y0 : map byte (outputs y0 start (true ∷ replicate 7 false)) ≡ 1 ∷ 1 ∷ 1 ∷ 1 ∷ 0 ∷ 0 ∷ 1 ∷ 0 ∷ []
@@ -21,8 +21,8 @@ unfolding outputs xor
 p7-y1 = refl
 
 -- X Y0 Y1 of the three clocks of the ending after a single 1, when all three pass
-pub p8 : map byte (endingOfFirst (replicate 3 (flags 1 1 1 0 0 0)) (next start true)) ≡ 0 ∷ 1 ∷ 1 ∷ 1 ∷ 0 ∷ 1 ∷ 1 ∷ 1 ∷ 1 ∷ []
-unfolding endingOfFirst passed xor
+pub p8 : map byte (endingOf false (replicate 3 (flags 1 1 1 0 0 0)) (next start true)) ≡ 0 ∷ 1 ∷ 1 ∷ 1 ∷ 0 ∷ 1 ∷ 1 ∷ 1 ∷ 1 ∷ []
+unfolding endingOf alone passed xor
 p8 = refl
 
 pub p9 : map (position (rowOf 20)) (1 ∷ 2 ∷ 3 ∷ 4 ∷ 95 ∷ 96 ∷ []) ≡ 2 ∷ 43 ∷ 76 ∷ 21 ∷ 24 ∷ 65 ∷ []

@@ -1,7 +1,7 @@
 -- The coded bits of a block on a good row are N.
 -- Assumes nothing.
 use mathlib.Core.Path.{_≡_, refl, sym, ap, ap₂, _∙_}
-use mathlib.Core.Bool.{Bool, false}
+use mathlib.Core.Bool.{Bool, true, false}
 use mathlib.Core.List.{List, [], _∷_}
 use Prim.Native.Nat.{ℕ, suc, _+_, _<_}
 use native.Mathlib.Omega.{arith}
@@ -14,9 +14,9 @@ use Rattle.links.specs.Sizes.{passedOn, tailBits, imageLength}
 use Rattle.links.specs.Good.{goodRow}
 use Rattle.links.proofs.GoodFlags.{Pattern, Tail, clock-at, pattern, tail}
 use Rattle.links.proofs.PassedOn.{tail-bits-split}
-use Rattle.turbo.specs.Encoder.{Register, start, feedback, next, y0, y1}
+use Rattle.turbo.specs.Encoder.{Register, start, feedback, next}
 use Rattle.turbo.specs.Interleaver.{interleaved}
-use Rattle.turbo.specs.Coded.{six, passed, endingOfFirst, endingOfSecond, ending, codedFrom, coded}
+use Rattle.turbo.specs.Coded.{six, passed, alone, endingOf, ending, codedFrom, coded}
 use Rattle.turbo.proofs.Interleaved.{length-interleaved}
 use Rattle.turbo.proofs.Passing.{length-passed}
 
@@ -24,28 +24,23 @@ use Rattle.turbo.proofs.Passing.{length-passed}
 abbrev SixEach : List (List ℕ) → Type 0
 SixEach clocks = (i : ℕ) → i < length clocks → length (getD clocks i []) ≡ 6
 
-length-first : (clocks : List (List ℕ)) → SixEach clocks → (a : Register) → length (endingOfFirst clocks a) ≡ tailBits clocks
-unfolding endingOfFirst tailBits
-length-first [] each a = refl
-length-first (flags ∷ clocks) each a =
-    let bits = feedback a ∷ y0 a (feedback a) ∷ y1 a (feedback a) ∷ false ∷ false ∷ false ∷ [] in
-    let more = next a (feedback a) in
-    length-append (passed flags bits) (endingOfFirst clocks more)
-    ∙ ap₂ _+_ (length-passed flags bits (omega (arith, each 0 (omega arith)))) (length-first clocks (λ i h. each (suc i) (omega arith)) more)
+length-alone : (second : Bool) (r : Register) → length (alone second r) ≡ 6
+unfolding alone
+length-alone true r = refl
+length-alone false r = refl
 
-length-second : (clocks : List (List ℕ)) → SixEach clocks → (b : Register) → length (endingOfSecond clocks b) ≡ tailBits clocks
-unfolding endingOfSecond tailBits
-length-second [] each b = refl
-length-second (flags ∷ clocks) each b =
-    let bits = false ∷ false ∷ false ∷ feedback b ∷ y0 b (feedback b) ∷ y1 b (feedback b) ∷ [] in
-    let more = next b (feedback b) in
-    length-append (passed flags bits) (endingOfSecond clocks more)
-    ∙ ap₂ _+_ (length-passed flags bits (omega (arith, each 0 (omega arith)))) (length-second clocks (λ i h. each (suc i) (omega arith)) more)
+length-ending-of : (second : Bool) (clocks : List (List ℕ)) → SixEach clocks → (r : Register) → length (endingOf second clocks r) ≡ tailBits clocks
+unfolding endingOf tailBits
+length-ending-of second [] each r = refl
+length-ending-of second (flags ∷ clocks) each r =
+    length-append (passed flags (alone second r)) (endingOf second clocks (next r (feedback r)))
+    ∙ ap₂ _+_ (length-passed flags (alone second r) (omega (arith, each 0 (omega arith), length-alone second r)))
+    (length-ending-of second clocks (λ i h. each (suc i) (omega arith)) (next r (feedback r)))
 
 pub length-ending : (clocks : List (List ℕ)) → Tail clocks → (a b : Register) → length (ending clocks a b) ≡ tailBits clocks
 length-ending clocks good a b =
-    length-append (endingOfFirst (take 3 clocks) a) (endingOfSecond (drop 3 clocks) b)
-    ∙ ap₂ _+_ (length-first (take 3 clocks) first a) (length-second (drop 3 clocks) second b)
+    length-append (endingOf false (take 3 clocks) a) (endingOf true (drop 3 clocks) b)
+    ∙ ap₂ _+_ (length-ending-of false (take 3 clocks) first a) (length-ending-of true (drop 3 clocks) second b)
     ∙ sym (tail-bits-split 3 clocks)
   where
     first : SixEach (take 3 clocks)

@@ -1,7 +1,13 @@
 pub mod Affine
+pub mod AtClock
+pub mod BitAt
+pub mod Bounds
 pub mod Cases
 pub mod Interleaved
+pub mod Left
 pub mod Lengths
+pub mod Number
+pub mod OfRow
 pub mod Passing
 pub mod Permutation
 pub mod Steps

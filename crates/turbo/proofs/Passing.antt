@@ -2,22 +2,45 @@
 -- Assumes nothing.
 use mathlib.Core.Path.{_≡_, refl, sym, ap, ap₂, _∙_}
 use mathlib.Core.Bool.{Bool}
-use mathlib.Core.List.{List, [], _∷_, _++_, append-nil, append-assoc}
-use Prim.Native.Nat.{ℕ, zero, suc, _+_, _≤_}
+use mathlib.Core.List.{List, [], _∷_, _++_, map, map-append, append-nil, append-assoc}
+use Prim.Native.Nat.{ℕ, zero, suc, _+_, _≤_, _<_}
+use native.Mathlib.Numerals.{add-one}
 use native.Mathlib.Omega.{arith}
-use lib.ListN.{length, getD, take, drop, replicate, length-append, length-replicate}
+use lib.ListN.{length, getD, take, drop, replicate, length-append, length-replicate, drop-of-length-le}
+use lib.Seq.{drop-cons}
 use Rattle.links.specs.Patterns.{total}
 use Rattle.links.specs.Good.{ofFirst, ofSecond}
 use Rattle.links.proofs.GoodFlags.{Silent}
 use Rattle.turbo.specs.Coded.{passed}
 
 -- how much passes depends on the flags only
-pub length-passed : (flags : List ℕ) (bits : List Bool) → length flags ≤ length bits → length (passed flags bits) ≡ total flags
+pub length-passed : {A : Type 0} (flags : List ℕ) (bits : List A) → length flags ≤ length bits → length (passed flags bits) ≡ total flags
 unfolding passed total
 length-passed [] bits h = refl
 length-passed (flag ∷ flags) [] h = absurd (omega arith)
 length-passed (flag ∷ flags) (b ∷ bits) h =
     length-append (replicate flag b) (passed flags bits) ∙ ap₂ _+_ (length-replicate flag b) (length-passed flags bits (omega arith))
+
+-- what is left to pass on at i
+pub passed-more : (flags bits : List ℕ) (i : ℕ) → i < length flags → i < length bits
+    → passed (drop i flags) (drop i bits) ≡ replicate (getD flags i 0) (getD bits i 0) ++ passed (drop (i + 1) flags) (drop (i + 1) bits)
+unfolding passed
+passed-more flags bits i h l = rw (drop-cons flags i 0 h, drop-cons bits i 0 l, add-one)
+
+pub passed-done : (flags bits : List ℕ) (i : ℕ) → length flags ≤ i → passed (drop i flags) (drop i bits) ≡ []
+unfolding passed
+passed-done flags bits i h = rw (drop-of-length-le flags h)
+
+-- passed on and then written as bytes, or the other way round
+map-replicate : {A B : Type 0} (f : A → B) (n : ℕ) (x : A) → map f (replicate n x) ≡ replicate n (f x)
+map-replicate f zero x = refl
+map-replicate {B = B} f (suc n) x = ap {B = List B} (_∷_ (f x)) (map-replicate f n x)
+
+pub map-passed : {A B : Type 0} (f : A → B) (flags : List ℕ) (xs : List A) → map f (passed flags xs) ≡ passed flags (map f xs)
+unfolding passed
+map-passed f [] xs = refl
+map-passed f (flag ∷ flags) [] = refl
+map-passed f (flag ∷ flags) (x ∷ xs) = map-append f (replicate flag x) (passed flags xs) ∙ ap₂ _++_ (map-replicate f flag x) (map-passed f flags xs)
 
 -- a bit that passes once stands first
 pub passed-x : (flags : List ℕ) (x : Bool) (bits : List Bool) → getD flags 0 0 ≡ 1 → passed flags (x ∷ bits) ≡ x ∷ passed (drop 1 flags) bits
@@ -31,13 +54,13 @@ unfolding passed
 passed-over [] x bits e = refl
 passed-over (flag ∷ flags) x bits e = rw e
 
-of-nothing : (flags : List ℕ) → passed flags [] ≡ []
+of-nothing : {A : Type 0} (flags : List ℕ) → _≡_ {A = List A} (passed flags []) []
 unfolding passed
 of-nothing [] = refl
 of-nothing (flag ∷ flags) = refl
 
 -- of the first n bits, and of those behind them
-pub passed-split : (n : ℕ) (flags : List ℕ) (bits : List Bool) → passed flags bits ≡ passed (take n flags) (take n bits) ++ passed (drop n flags) (drop n bits)
+pub passed-split : {A : Type 0} (n : ℕ) (flags : List ℕ) (bits : List A) → passed flags bits ≡ passed (take n flags) (take n bits) ++ passed (drop n flags) (drop n bits)
 unfolding passed
 passed-split zero flags bits = refl
 passed-split (suc n) [] bits = refl

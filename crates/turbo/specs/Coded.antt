@@ -1,5 +1,5 @@
 -- What the two encoders put out for a block (M.2092-1, Annex 2, 1.2.4.1, 1.2.4.4): the clocks of the block, then the ending.
-use mathlib.Core.Bool.{Bool, false}
+use mathlib.Core.Bool.{Bool, true, false}
 use mathlib.Core.List.{List, [], _∷_, _++_}
 use Prim.Native.Nat.{ℕ, suc}
 use lib.ListN.{take, drop, replicate}
@@ -12,26 +12,26 @@ use Rattle.turbo.specs.Interleaver.{interleaved}
 unfoldable pub six : Register → Register → Bool → Bool → List Bool
 six a b u v = u ∷ y0 a u ∷ y1 a u ∷ v ∷ y0 b v ∷ y1 b v ∷ []
 
--- each bit as often as its flag says
-unfoldable pub passed : List ℕ → List Bool → List Bool
-passed [] bits = []
+-- each element as often as its flag says
+unfoldable pub passed : {A : Type 0} → List ℕ → List A → List A
+passed [] xs = []
 passed (flag ∷ flags) [] = []
-passed (flag ∷ flags) (b ∷ bits) = replicate flag b ++ passed flags bits
+passed (flag ∷ flags) (x ∷ xs) = replicate flag x ++ passed flags xs
 
--- the clocks of the ending, one to each six flags: each encoder is fed what its register feeds back, and the flags of the
--- tail pass on one encoder only. The first three clocks drive the first encoder, the others the second.
-unfoldable pub endingOfFirst : List (List ℕ) → Register → List Bool
-endingOfFirst [] a = []
-endingOfFirst (flags ∷ tail) a =
-    passed flags (feedback a ∷ y0 a (feedback a) ∷ y1 a (feedback a) ∷ false ∷ false ∷ false ∷ []) ++ endingOfFirst tail (next a (feedback a))
+-- the six of a clock of the ending: one encoder, the first or the second, is fed what its register feeds back, and the
+-- other puts out nothing
+unfoldable pub alone : Bool → Register → List Bool
+alone false a = feedback a ∷ y0 a (feedback a) ∷ y1 a (feedback a) ∷ false ∷ false ∷ false ∷ []
+alone true b = false ∷ false ∷ false ∷ feedback b ∷ y0 b (feedback b) ∷ y1 b (feedback b) ∷ []
 
-unfoldable pub endingOfSecond : List (List ℕ) → Register → List Bool
-endingOfSecond [] b = []
-endingOfSecond (flags ∷ tail) b =
-    passed flags (false ∷ false ∷ false ∷ feedback b ∷ y0 b (feedback b) ∷ y1 b (feedback b) ∷ []) ++ endingOfSecond tail (next b (feedback b))
+-- the ending of one encoder, one clock to each six flags
+unfoldable pub endingOf : Bool → List (List ℕ) → Register → List Bool
+endingOf second [] r = []
+endingOf second (flags ∷ tail) r = passed flags (alone second r) ++ endingOf second tail (next r (feedback r))
 
+-- three clocks put out the first encoder only, the others the second
 abbrev pub ending : List (List ℕ) → Register → Register → List Bool
-ending tail a b = endingOfFirst (take 3 tail) a ++ endingOfSecond (drop 3 tail) b
+ending tail a b = endingOf false (take 3 tail) a ++ endingOf true (drop 3 tail) b
 
 -- from clock s on: u are the bits that are left, v the same interleaved
 unfoldable pub codedFrom : List (List ℕ) → List (List ℕ) → ℕ → Register → Register → List Bool → List Bool → List Bool

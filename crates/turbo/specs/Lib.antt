@@ -1,5 +1,7 @@
 pub mod Coded
+pub mod Encode
 pub mod Encoder
 pub mod Interleaver
+pub mod Number
 pub mod Outputs
 pub mod Parity

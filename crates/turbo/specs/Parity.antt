@@ -1,6 +1,6 @@
 -- The coded bits of a block in their parts (M.2092-1, Annex 2, 1.2.4.4): clock by clock X and the parity bits that pass behind it, then the ending.
 use mathlib.Core.Bool.{Bool}
-use mathlib.Core.List.{List, [], _∷_, _++_}
+use mathlib.Core.List.{List, [], _∷_}
 use Prim.Native.Nat.{ℕ, zero, suc}
 use lib.ListN.{drop}
 use Rattle.links.specs.declared.Row.{Row}

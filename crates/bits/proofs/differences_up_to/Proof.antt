@@ -11,8 +11,6 @@ use Rattle.bits.specs.Row.{differences}
 use Rattle.bits.proofs.Counted.{leftAt, left-same, left-other, left-done}
 use Rattle.bits.proofs.differences_up_to.Statement.{statement}
 use Rattle.bits.proofs.differences_up_to.Tie as tie
-use Rattle.bits.proofs.differences_up_to.Reads as reads
-use Rattle.bits.proofs.differences_up_to.Lts as lts
 
 abbrev Inv-loop : tie.InvT-loop
 Inv-loop a b limit count₀ i₀ i-end count i =

@@ -1,10 +1,9 @@
 -- Byte by byte: what is left to lay at j is what the row from j * 8 on makes. Assumes nothing.
-use mathlib.Core.Path.{_≡_, refl}
 use mathlib.Core.List.{map}
 use Prim.Native.Nat.{_≤_, _-_, _*_}
 use native.Mathlib.Nat.{sub-zero}
 use native.Mathlib.Omega.{arith}
-use lib.ListN.{length, drop}
+use lib.ListN.{drop}
 use borrow.Author.Needs.{needs}
 use Rattle.lists.specs.Over.{Laying}
 use Rattle.lists.proofs.Over.{start, fits, more, done}

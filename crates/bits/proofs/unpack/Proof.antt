@@ -1,5 +1,4 @@
 -- Bit by bit: what is left to lay at i is the filled row from its place i on. Assumes nothing.
-use mathlib.Core.Path.{_≡_, refl}
 use mathlib.Core.List.{map}
 use Prim.Native.Nat.{_≤_, _-_}
 use native.Mathlib.Omega.{arith}

@@ -8,11 +8,6 @@ use Rattle.links.proofs.Facts.{sizes}
 use Rattle.blocks.proofs.Composed.{block-composed}
 use Rattle.blocks.proofs.block_bits.Statement.{statement}
 use Rattle.blocks.proofs.block_bits.Tie as tie
-use Rattle.blocks.proofs.block_bits.Reads as reads
-use Rattle.blocks.proofs.block_bits.Lts as lts
-use Rattle.bits.proofs.lay_row.Reads as lay-row-reads
-use Rattle.bits.proofs.unpack.Reads as unpack-reads
-use Rattle.check32.proofs.register.Reads as register-reads
 
 sub-open : tie.Need-sub-open
 sub-open c =

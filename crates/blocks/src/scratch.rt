@@ -1,0 +1,9 @@
+// Scratch for the longest block and the longest image, cleared. There is no heap.
+ghost use mathlib.Core.Path.{_≡_};
+ghost use Rattle.blocks.specs.Cleared.{cleared};
+
+pub fn block() -> [u8; 5616]
+    ensures { λ r. ⌜ r ≡ cleared 5616 ⌝ }
+{
+    [0; 5616]
+}

@@ -1,0 +1,69 @@
+-- Clocks in an array: those of a pattern and of a tail are found again, and no flag is above theirs.
+-- Assumes nothing.
+use mathlib.Core.Path.{_≡_, refl}
+use mathlib.Core.Bool.{Bool, true, false}
+use mathlib.Core.List.{List, [], _∷_, _++_, append-nil}
+use Prim.Native.Nat.{ℕ, zero, suc, _+_, _-_, _≤_, _<_, zero-le}
+use native.Mathlib.Omega.{arith}
+use lib.Dec.{T, ltb, leb→le}
+use lib.ListN.{length, getD, take, replicate}
+use lib.Seq.{take-at}
+use borrow.Author.Tests.{ltb-true, ltb-false}
+use Rattle.lists.specs.Every.{every}
+use Rattle.lists.proofs.Every.{every-place}
+use Rattle.links.specs.declared.Row.{Row}
+use Rattle.links.specs.Patterns.{flags, padded, patternOf, tailOf}
+use Rattle.links.specs.Good.{atMost, goodRow}
+use Rattle.links.proofs.GoodFlags.{pattern, tail}
+
+pub take-padded : (n : ℕ) (clocks : List (List ℕ)) → take (length clocks) (padded n clocks) ≡ clocks
+unfolding padded
+take-padded n clocks = take-at clocks _ (length clocks) refl
+
+-- an array that the clocks fill
+pub padded-full : (n : ℕ) (clocks : List (List ℕ)) → n ≤ length clocks → padded n clocks ≡ clocks
+unfolding padded
+padded-full n clocks h = let none : n - length clocks ≡ 0 = omega arith in rw none (append-nil clocks)
+
+-- no flag is above a limit
+module _ (limit : ℕ) where
+  abbrev pub Low : List (List ℕ) → Type 0
+  Low clocks = (i x : ℕ) → getD (getD clocks i []) x 0 ≤ limit
+
+  pub low-inside : (clocks : List (List ℕ)) → ((i : ℕ) → i < length clocks → (x : ℕ) → getD (getD clocks i []) x 0 ≤ limit) → Low clocks
+  low-inside [] each i x = zero-le
+  low-inside (clock ∷ clocks) each zero x = each 0 (omega arith) x
+  low-inside (clock ∷ clocks) each (suc i) x = low-inside clocks (λ j h. each (suc j) (omega arith)) i x
+
+  low-append : (clocks more : List (List ℕ)) → Low clocks → Low more → Low (clocks ++ more)
+  low-append [] more low low-more i = low-more i
+  low-append (clock ∷ clocks) more low low-more zero = low 0
+  low-append (clock ∷ clocks) more low low-more (suc i) = low-append clocks more (λ j. low (suc j)) low-more i
+
+  low-zeros : (n : ℕ) → Low (replicate n (flags 0 0 0 0 0 0))
+  unfolding every
+  low-zeros zero i x = zero-le
+  low-zeros (suc n) zero x = omega (arith, leb→le (getD (flags 0 0 0 0 0 0) x 0) 0 (every-place (atMost 0) 0 (flags 0 0 0 0 0 0) tt tt x))
+  low-zeros (suc n) (suc i) x = low-zeros n i x
+
+  pub low-padded : (n : ℕ) (clocks : List (List ℕ)) → Low clocks → Low (padded n clocks)
+  unfolding padded
+  low-padded n clocks low = low-append clocks (replicate (n - length clocks) (flags 0 0 0 0 0 0)) low (low-zeros (n - length clocks))
+
+-- the flags of a good row are at most 2
+module _ (row : Row) (good : T (goodRow row)) where
+  pub low-pattern : Low 2 (patternOf (row .pattern))
+  low-pattern = low-inside 2 (patternOf (row .pattern)) (λ i h x. omega (arith, pattern row good .clock i h .low x))
+
+  pub low-tail : Low 2 (tailOf (row .tail))
+  low-tail = low-inside 2 (tailOf (row .tail)) each
+    where
+      each : (i : ℕ) → i < length (tailOf (row .tail)) → (x : ℕ) → getD (getD (tailOf (row .tail)) i []) x 0 ≤ 2
+      each i h x = decided (ltb i 3) refl
+        where
+          decided : (b : Bool) → ltb i 3 ≡ b → getD (getD (tailOf (row .tail)) i []) x 0 ≤ 2
+          decided true e = tail row good .first i (ltb-true i 3 e) .low x
+          decided false e =
+              let behind : 3 ≤ i = ltb-false i 3 e in
+              let place : 3 + (i - 3) ≡ i = omega arith in
+              rw place at (tail row good .second (i - 3) (omega (arith, tail row good .six)) .low x)

@@ -1,0 +1,124 @@
+-- Clock by clock, by the laws of AtClock. Assumes nothing.
+use mathlib.Core.Path.{_≡_, _∙_}
+use Prim.Native.Nat.{_-_}
+use native.Mathlib.Omega.{arith}
+use lib.ListN.{length}
+use Rattle.turbo.proofs.BitAt.{bit-small}
+use Rattle.turbo.proofs.AtClock.{AtClock, at-start, place-below, clock-fits, at-next, ending-fits, at-end}
+use borrow.Author.Needs.{needs}
+use Rattle.turbo.proofs.encode.Statement.{statement}
+use Rattle.turbo.proofs.encode.Tie as tie
+
+abbrev Inv-loop : tie.InvT-loop
+Inv-loop u v period tail out₀ pattern at₀ a₀ b₀ c₀ s₀ s-end out at a b c s = (s-end ≡ length u) × AtClock u v pattern period tail out₀ out at a b c s
+
+abbrev μ-loop : tie.MeasureT-loop
+μ-loop u v period tail out₀ pattern at₀ a₀ b₀ c₀ s₀ s-end out at a b c s = s-end - s
+
+loop-holds : tie.Need-loop-holds Inv-loop μ-loop
+loop-holds c =
+    let a = c .before .before .before .args in
+    (search needs, at-start (a .u .now) (a .v .now) (a .t3) (a .period) (a .tail) (a .out .now) (c .before .before .before .pre .1))
+
+shared-slice-read-x : tie.Need-shared-slice-read-x Inv-loop μ-loop
+shared-slice-read-x c = search needs
+
+shared-slice-read-y : tie.Need-shared-slice-read-y Inv-loop μ-loop
+shared-slice-read-y c = search needs
+
+mul-flags : tie.Need-mul-flags Inv-loop μ-loop
+mul-flags c =
+    let p = c .before .before .before .before .before .before .before .pre .0 in
+    let ten : length (c .before .before .before .before .before .before .before .args .t3) ≡ 10 = search needs in
+    omega (arith, place-below p ten (c .before .before .before .loop .inv .1), p .few)
+
+array-copy-out-flags : tie.Need-array-copy-out-flags Inv-loop μ-loop
+array-copy-out-flags c =
+    let p = c .before .before .before .before .before .before .before .pre .0 in
+    let ten : length (c .before .before .before .before .before .before .before .args .t3) ≡ 10 = search needs in
+    omega (arith, place-below p ten (c .before .before .before .loop .inv .1), p .few)
+
+six-requires : tie.Need-six-requires Inv-loop μ-loop
+six-requires c κs =
+    let a = c .before .before .before .before .before .before .before .before .args in
+    let p = c .before .before .before .before .before .before .before .before .pre .0 in
+    let l = c .before .before .before .before .loop in
+    (l .inv .1 .small-a, l .inv .1 .small-b, bit-small (a .u .now) (p .bits-u) (l .s) (omega arith), bit-small (a .v .now) (p .bits-v) (l .s) (omega (arith, p .same)))
+
+lay-requires : tie.Need-lay-requires Inv-loop μ-loop
+lay-requires c κs =
+    let p = c .before .before .before .before .before .before .before .before .before .before .pre .0 in
+    let l = c .before .before .before .before .before .before .loop in
+    let ten : length (c .before .before .before .before .before .before .before .before .before .before .args .t3) ≡ 10 = search needs in
+    (p .pattern-flags (l .c), rw (c .before .six .ensures) (clock-fits p ten (l .inv .1) (omega arith)))
+
+next-requires : tie.Need-next-requires Inv-loop μ-loop
+next-requires c κs =
+    let p = c .before .before .before .before .before .before .before .before .before .before .before .before .before .pre .0 in
+    let l = c .before .before .before .before .before .before .before .before .before .loop in
+    (l .inv .1 .small-a, bit-small (c .before .before .before .before .before .before .before .before .before .before .before .before .before .args .u .now) (p .bits-u) (l .s) (omega arith))
+
+next-requires-2 : tie.Need-next-requires-2 Inv-loop μ-loop
+next-requires-2 c κs =
+    let p = c .before .before .before .before .before .before .before .before .before .before .before .before .before .before .pre .0 in
+    let l = c .before .before .before .before .before .before .before .before .before .before .loop in
+    (l .inv .1 .small-b, bit-small (c .before .before .before .before .before .before .before .before .before .before .before .before .before .before .args .v .now) (p .bits-v) (l .s) (omega (arith, p .same)))
+
+next-clock-requires : tie.Need-next-clock-requires Inv-loop μ-loop
+next-clock-requires c κs =
+    let p = c .before .before .before .before .before .before .before .before .before .before .before .before .before .before .before .pre .0 in
+    let ten : length (c .before .before .before .before .before .before .before .before .before .before .before .before .before .before .before .args .t3) ≡ 10 = search needs in
+    (place-below p ten (c .before .before .before .before .before .before .before .before .before .before .before .loop .inv .1), p .few)
+
+add-s : tie.Need-add-s Inv-loop μ-loop
+add-s c = search needs
+
+loop-less : tie.Need-loop-less Inv-loop μ-loop
+loop-less c = search needs
+
+loop-again : tie.Need-loop-again Inv-loop μ-loop
+loop-again c =
+    let p = c .before .before .before .before .before .before .before .before .before .before .before .before .before .before .before .before .pre .0 in
+    let l = c .before .before .before .before .before .before .before .before .before .before .before .before .loop in
+    let ten : length (c .before .before .before .before .before .before .before .before .before .before .before .before .before .before .before .before .args .t3) ≡ 10 = search needs in
+    let laid = rw (c .before .before .before .before .before .before .before .six .ensures) at (c .before .before .before .before .before .lay .ensures) in
+    (l .inv .0, at-next p ten (l .inv .1) (omega arith) laid (c .before .before .next .ensures) (c .before .next2 .ensures) (c .next-clock .ensures))
+
+end-requires : tie.Need-end-requires Inv-loop μ-loop
+end-requires c κs =
+    let p = c .before .before .before .before .before .before .pre .0 in
+    let i = c .before .before .loop .inv .1 in
+    let ten : length (c .before .before .before .before .before .before .args .t3) ≡ 10 = search needs in
+    ((i .small-a, i .small-b, p .tail-flags), ending-fits p ten i (omega arith))
+
+same-length : tie.Need-same-length Inv-loop μ-loop
+same-length c = c .before .before .end .kept .1 .1 .1 .1 .0 ∙ c .before .before .before .before .before .loop .inv .1 .laying .long
+
+returns : tie.Need-returns Inv-loop μ-loop
+returns c =
+    let p = c .before .before .before .before .before .before .before .before .before .pre .0 in
+    let ten : length (c .before .before .before .before .before .before .before .before .before .args .t3) ≡ 10 = search needs in
+    at-end p ten (c .before .before .before .before .before .loop .inv .1) (omega arith) (c .before .before .end .ensures)
+
+pub encode-spec : {M : Type 1} → statement M
+encode-spec =
+    tie.close
+    (tie.spec
+    Inv-loop
+    μ-loop
+    loop-holds
+    shared-slice-read-x
+    shared-slice-read-y
+    mul-flags
+    array-copy-out-flags
+    six-requires
+    lay-requires
+    next-requires
+    next-requires-2
+    next-clock-requires
+    add-s
+    loop-less
+    loop-again
+    end-requires
+    same-length
+    returns)

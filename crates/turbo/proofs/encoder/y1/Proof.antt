@@ -1,0 +1,23 @@
+-- The code and the definition agree at each register and input, which antt computes. Assumes nothing.
+use mathlib.Core.Bool.{xor}
+use Prim.Native.Nat.{_/_}
+use lib.Bits.{bitAnd, bitXor}
+use borrow.Author.Needs.{needs}
+use Rattle.bits.specs.Bits.{byte}
+use Rattle.turbo.specs.Encoder.{y1}
+use Rattle.turbo.specs.Number.{registerOf}
+use Rattle.turbo.proofs.Number.{of-shifted}
+use Rattle.turbo.proofs.encoder.y1.Statement.{statement}
+use Rattle.turbo.proofs.encoder.y1.Tie as tie
+
+shifted-requires : tie.Need-shifted-requires
+shifted-requires c κs = search needs
+
+returns : tie.Need-returns
+unfolding registerOf xor
+returns c =
+    let p = c .before .pre in
+    of-shifted (λ s. bitAnd (bitXor (bitXor (bitXor s (s / 2)) (s / 4)) (s / 8)) 1) (λ r u. byte (y1 r u)) tt _ _ _ (c .shifted .ensures) (p .0) (p .1)
+
+pub y1-spec : {M : Type 1} → statement M
+y1-spec = tie.close (tie.spec shifted-requires returns)
