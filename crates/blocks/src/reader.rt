@@ -3,6 +3,7 @@
 use crate::Block;
 use crate::coded::lay_image;
 use crate::received::receive;
+use crate::scratch;
 use links::Row;
 ghost use mathlib.Core.Path.{_≡_};
 ghost use mathlib.Core.Bool.{true};
@@ -84,7 +85,7 @@ fn compare(row: Row, u: &[u8], came: &[u8], limit: usize, image: &mut [u8]) -> u
     ensures { λ r. ⌜ r ≡ min (differences (imageOf row (map isOne (now (u .entry)))) (map isOne (now (came .entry)))) (limit + 1) ⌝ }
 {
     let k = u.len();
-    let mut v = [0u8; 5616];
+    let mut v = scratch::block();
     lay_image(row, u, &mut v[..k], image);
     bits::differences_up_to(image, came, limit)
 }
@@ -113,8 +114,8 @@ fn read_row(row: Row, came: &[u8], out: &mut [u8]) -> Block
 {
     let k = row.k as usize;
     let n = came.len();
-    let mut u = [0u8; 5616];
-    let mut image = [0u8; 12855];
+    let mut u = scratch::block();
+    let mut image = scratch::image();
     receive(row, came, &mut image[..n], &mut u[..k]);
     if !mend(&mut u[..k]) {
         return refuse(7);
@@ -127,7 +128,7 @@ pub fn read(link: u32, bits: &[u8], out: &mut [u8]) -> Block
     ensures { λ r. ⌜ Wrote (readBlock link (now (bits .entry)) (length (now (out .entry)))) (now (out .entry)) (now (out .exit)) r ⌝ }
 {
     let place = links::place_of(link);
-    if place == 22 {
+    if place >= 22 {
         return refuse(1);
     }
     if bits.len() != links::image_length_at(place) {
