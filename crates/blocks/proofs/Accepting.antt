@@ -10,15 +10,19 @@ use lib.ListN.{length, length-map}
 use borrow.Author.Tests.{le-leb, lt-leb}
 use Rattle.answers.specs.Numbers.{noBlock}
 use Rattle.answers.specs.Outcome.{Outcome, laid, Wrote}
+use Rattle.lists.specs.Over.{over}
+use Rattle.lists.proofs.Over.{over-zero}
 use Rattle.bits.specs.Bits.{isOne}
+use Rattle.bits.specs.Datagram.{bytesOf}
 use Rattle.bits.specs.Row.{differences}
+use Rattle.bits.proofs.Datagram.{length-bytesOf}
 use Rattle.distance.specs.Coding.{received}
 use Rattle.distance.specs.Valid.{allZero, bitsOver}
 use Rattle.distance.specs.Reading.{isNear, readByTrying, candidate, passing, accepted, readByCandidate}
 use Rattle.distance.proofs.OneCandidate.{one-candidate}
 use Rattle.links.specs.declared.Row.{Row}
 use Rattle.links.specs.Good.{goodRow}
-use Rattle.links.specs.Sizes.{imageLength}
+use Rattle.links.specs.Sizes.{bytesHeld, imageLength}
 use Rattle.blocks.specs.declared.Block.{Block}
 use Rattle.blocks.specs.Block.{imageOf, datagramOf}
 use Rattle.blocks.specs.Coding.{codingOf}
@@ -34,6 +38,15 @@ module _ {outcome : Outcome Block} {answer : Block} where
   pub reads : (datagram : List ℕ) (wrong count : ℕ) (old new : List ℕ) → outcome ≡ reading datagram wrong → length datagram ≡ count → answer ≡ found count wrong → new ≡ laid datagram old
       → Wrote outcome old new answer
   reads datagram wrong count old new e l a p = rw (e, a) (record { answers = rw l; leaves = p })
+
+-- the datagram of a block, laid as bytes are packed
+pub length-datagram : (row : Row) (u : List Bool) → length (datagramOf row u) ≡ bytesHeld row
+unfolding datagramOf
+length-datagram row u = length-bytesOf (bytesHeld row) u
+
+pub datagram-laid : (row : Row) (u : List Bool) (old new : List ℕ) {held : ℕ} → held ≡ bytesHeld row → new ≡ over 0 (bytesOf held u) old → new ≡ laid (datagramOf row u) old
+unfolding datagramOf
+datagram-laid row u old new e p = p ∙ ap (λ (m : ℕ). over 0 (bytesOf m u) old) e ∙ over-zero (bytesOf (bytesHeld row) u) old
 
 module _ (row : Row) (good : T (goodRow row)) (came : List Bool) where
   -- ---- a block that closes
