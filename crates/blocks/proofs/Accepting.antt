@@ -12,9 +12,10 @@ use Rattle.answers.specs.Numbers.{noBlock}
 use Rattle.answers.specs.Outcome.{Outcome, laid, Wrote}
 use Rattle.lists.specs.Over.{over}
 use Rattle.lists.proofs.Over.{over-zero}
-use Rattle.bits.specs.Bits.{isOne}
+use Rattle.bits.specs.Bits.{isOne, byte}
 use Rattle.bits.specs.Datagram.{bytesOf}
 use Rattle.bits.specs.Row.{differences}
+use Rattle.bits.proofs.Bits.{bits-bytes}
 use Rattle.bits.proofs.Datagram.{length-bytesOf}
 use Rattle.distance.specs.Coding.{received}
 use Rattle.distance.specs.Valid.{allZero, bitsOver}
@@ -74,12 +75,14 @@ module _ (row : Row) (good : T (goodRow row)) (came : List Bool) where
     near-accepted o h = by-tests true true o (le-leb (differences (imageOf row u) came) 1 h)
 
   -- ---- the candidate of what came
-  module _ (size : length came ≡ imageLength row) (new : List ℕ) (closes : Bool) (mended : Mends (received (codingOf row) came) new closes) where
+  module _ (size : length came ≡ imageLength row) (u new : List ℕ) (closes : Bool)
+      (k-bits : u ≡ map byte (received (codingOf row) came)) (mended : Mends (map isOne u) new closes) where
     by-candidate : answered row came (readByTrying (codingOf row) came) ≡ answered row came (passing (accepted (codingOf row) came) (cond closes (some (map isOne new)) none))
     unfolding codingOf readByCandidate
     by-candidate =
+        let bits : received (codingOf row) came ≡ map isOne u = sym (ap (map isOne) k-bits ∙ bits-bytes (received (codingOf row) came)) in
         ap (answered row came)
-        (one-candidate (codingOf row) (sound row good) came size ∙ ap (passing (accepted (codingOf row) came)) (mended .made))
+        (one-candidate (codingOf row) (sound row good) came size ∙ ap (passing (accepted (codingOf row) came)) (ap candidate bits ∙ mended .made))
 
     pub none-closes : closes ≡ false → answered row came (readByTrying (codingOf row) came) ≡ refused noBlock
     unfolding answered passing

@@ -107,7 +107,19 @@ fn accept(row: Row, u: &[u8], came: &[u8], image: &mut [u8], out: &mut [u8]) -> 
     answer(held as u32, wrong as u32)
 }
 
-// Reads bits, as many as the row's images have, into a buffer with room for the datagram.
+// Reads bits, as many as the row's images have, into a buffer with room for the datagram. u and image are scratch.
+fn read_block(row: Row, came: &[u8], u: &mut [u8], image: &mut [u8], out: &mut [u8]) -> Block
+    requires { ⌜ T (goodRow row) × (length (now came) ≡ imageLength row) × (allBits (now came) ≡ true) × (length (now u) ≡ row .k) × (length (now image) ≡ imageLength row) × (bytesHeld row ≤ length (now out)) ⌝ }
+    ensures { λ r. ⌜ Wrote (answered row (map isOne (now (came .entry))) (readByTrying (codingOf row) (map isOne (now (came .entry))))) (now (out .entry)) (now (out .exit)) r ⌝ }
+{
+    receive(row, came, image, u);
+    if !mend(u) {
+        return refuse(7);
+    }
+    accept(row, u, came, image, out)
+}
+
+// The same, with scratch of its own.
 fn read_row(row: Row, came: &[u8], out: &mut [u8]) -> Block
     requires { ⌜ T (goodRow row) × (length (now came) ≡ imageLength row) × (allBits (now came) ≡ true) × (bytesHeld row ≤ length (now out)) ⌝ }
     ensures { λ r. ⌜ Wrote (answered row (map isOne (now (came .entry))) (readByTrying (codingOf row) (map isOne (now (came .entry))))) (now (out .entry)) (now (out .exit)) r ⌝ }
@@ -116,11 +128,7 @@ fn read_row(row: Row, came: &[u8], out: &mut [u8]) -> Block
     let n = came.len();
     let mut u = scratch::block();
     let mut image = scratch::image();
-    receive(row, came, &mut image[..n], &mut u[..k]);
-    if !mend(&mut u[..k]) {
-        return refuse(7);
-    }
-    accept(row, &u[..k], came, &mut image[..n], out)
+    read_block(row, came, &mut u[..k], &mut image[..n], out)
 }
 
 // Reads what came on a link as a block, and lays its datagram at the buffer's start.
