@@ -7,6 +7,7 @@ pub mod Cleared
 pub mod Comparing
 pub mod Composed
 pub mod Exact
+pub mod FoundRow
 pub mod Lent
 pub mod Mending
 pub mod Sound
