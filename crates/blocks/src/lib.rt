@@ -4,9 +4,9 @@ mod reader;
 mod received;
 mod scratch;
 
-pub use reader::read;
 use answers::Written;
 use links::Row;
+pub use reader::read;
 ghost use mathlib.Core.Path.{_≡_};
 ghost use mathlib.Core.List.{map};
 ghost use Prim.Native.Nat.{_≤_};
