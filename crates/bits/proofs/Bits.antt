@@ -3,9 +3,10 @@
 use mathlib.Core.Path.{_≡_, refl, ap₂}
 use mathlib.Core.Bool.{Bool, true, false, _&&_}
 use mathlib.Core.List.{List, [], _∷_, map}
-use Prim.Native.Nat.{ℕ, zero, suc, _≤_, _<_}
+use Prim.Native.Nat.{ℕ, zero, suc, _≤_, _<_, zero-le}
 use native.Mathlib.Omega.{arith}
 use lib.Dec.{leb}
+use lib.ListN.{getD}
 use borrow.Author.Tests.{leb-true}
 use Rattle.lists.specs.All.{all}
 use Rattle.bits.specs.Bits.{isOne, byte, allBits}
@@ -46,3 +47,10 @@ bytes-bits [] e = refl
 bytes-bits (x ∷ bytes) e =
     let p = both-true (leb x 1) (all (λ x. leb x 1) bytes) e in
     ap₂ _∷_ (byte-isOne x (leb-true x 1 (p .0))) (bytes-bits bytes (p .1))
+
+-- a byte among bytes that are all bits is 0 or 1
+pub bit-low : (bytes : List ℕ) → allBits bytes ≡ true → (i : ℕ) → getD bytes i 0 ≤ 1
+unfolding all
+bit-low [] e i = zero-le
+bit-low (x ∷ bytes) e zero = leb-true x 1 (both-true (leb x 1) (all (λ x. leb x 1) bytes) e .0)
+bit-low (x ∷ bytes) e (suc i) = bit-low bytes (both-true (leb x 1) (all (λ x. leb x 1) bytes) e .1) i

@@ -6,13 +6,11 @@ use mathlib.Core.List.{List, map}
 use Prim.Native.Nat.{ℕ, zero, suc, _+_, _<_, _≤_, min}
 use native.Mathlib.Numerals.{add-one}
 use native.Mathlib.Omega.{arith}
-use lib.Dec.{leb}
 use lib.ListN.{length, getD, drop, drop-of-length-le}
 use lib.Seq.{drop-cons}
-use borrow.Author.Tests.{leb-true}
-use Rattle.lists.proofs.All.{all-each}
 use Rattle.bits.specs.Bits.{isOne, allBits}
 use Rattle.bits.specs.Row.{differ, differences}
+use Rattle.bits.proofs.Bits.{bit-low}
 use Rattle.bits.proofs.Flip.{differ-self}
 
 differ-same : (x y : ℕ) → x ≡ y → differ (isOne x) (isOne y) ≡ 0
@@ -46,6 +44,4 @@ module _ (a b : List ℕ) (long : length a ≡ length b) where
   module _ (bits : allBits a ≡ true) (bits' : allBits b ≡ true) where
     pub left-other : (i : ℕ) → i < length a → (getD a i 0 ≡ getD b i 0 → ⊥) → leftAt a b i ≡ leftAt a b (i + 1) + 1
     left-other i h ne =
-        let low = leb-true (getD a i 0) 1 (all-each (λ x. leb x 1) a bits i h) in
-        let low' = leb-true (getD b i 0) 1 (all-each (λ x. leb x 1) b bits' i (omega arith)) in
-        omega (arith, left-more i h, differ-other (getD a i 0) (getD b i 0) low low' ne)
+        omega (arith, left-more i h, differ-other (getD a i 0) (getD b i 0) (bit-low a bits i) (bit-low b bits' i) ne)

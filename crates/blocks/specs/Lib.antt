@@ -3,3 +3,4 @@ pub mod Calls
 pub mod Cleared
 pub mod Coding
 pub mod Near
+pub mod Reading

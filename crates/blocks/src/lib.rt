@@ -1,9 +1,12 @@
 // Blocks (document 01, "From datagram to block"): a datagram as the image of its block, and back.
 mod coded;
+mod reader;
+mod received;
 mod scratch;
 
 use answers::Written;
 use links::Row;
+pub use reader::read;
 ghost use mathlib.Core.Path.{_≡_};
 ghost use mathlib.Core.List.{map};
 ghost use Prim.Native.Nat.{_≤_};

@@ -7,3 +7,9 @@ pub fn block() -> [u8; 5616]
 {
     [0; 5616]
 }
+
+pub fn image() -> [u8; 12855]
+    ensures { λ r. ⌜ r ≡ cleared 12855 ⌝ }
+{
+    [0; 12855]
+}

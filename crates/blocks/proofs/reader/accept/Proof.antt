@@ -1,0 +1,115 @@
+-- Both tests come before the datagram is laid. Assumes nothing.
+use mathlib.Core.Path.{_≡_, refl, sym, ap, _∙_}
+use mathlib.Core.List.{map}
+use Prim.Native.Nat.{_≤_, _<_}
+use native.Mathlib.Omega.{arith}
+use lib.ListN.{length-map}
+use borrow.Author.Tests.{not-true, not-false}
+use Rattle.bits.specs.Bits.{isOne}
+use Rattle.bits.specs.Row.{differences}
+use Rattle.links.proofs.Facts.{sizes}
+use Rattle.blocks.specs.Block.{imageOf, datagramOf}
+use Rattle.blocks.specs.Reading.{found}
+use Rattle.blocks.proofs.Accepting.{refuses, reads, over-refused, far-refused, near-accepted, length-datagram, datagram-laid}
+use borrow.Author.Needs.{needs}
+use Rattle.blocks.proofs.reader.accept.Statement.{statement}
+use Rattle.blocks.proofs.reader.accept.Tie as tie
+
+over-zero-requires : tie.Need-over-zero-requires
+over-zero-requires c κs = search needs
+
+refuse-requires : tie.Need-refuse-requires
+refuse-requires c κs = search needs
+
+returns : tie.Need-returns
+returns c =
+    let start = c .before .before .before .before .before .before .before in
+    let a = start .args in
+    let came = map isOne (a .came .now) in
+    let u = map isOne (a .u .now) in
+    let long = length-map (a .u .now) isOne ∙ start .pre .1 in
+    refuses 7 (a .out .now) (over-refused (a .row) (start .pre .0) came u long (sym (c .before .before .over-zero .ensures) ∙ not-true (c .before .before .over-zero .result) (c .before .if1 .taken))) (c .refuse .ensures)
+
+compare-requires : tie.Need-compare-requires
+compare-requires c κs = search needs
+
+refuse-requires-2 : tie.Need-refuse-requires-2
+refuse-requires-2 c κs = search needs
+
+same-length : tie.Need-same-length
+same-length c = search needs
+
+returns-2 : tie.Need-returns-2
+returns-2 c =
+    let start = c .before .before .before .before .before .before .before .before .before .before .before .before in
+    let a = start .args in
+    let came = map isOne (a .came .now) in
+    let u = map isOne (a .u .now) in
+    let long = length-map (a .u .now) isOne ∙ start .pre .1 in
+    let zero = sym (c .before .before .before .before .before .before .before .over-zero .ensures) ∙ not-false (c .before .before .before .before .before .before .before .over-zero .result) (c .before .before .before .before .before .before .if1 .left) in
+    let far : 1 < differences (imageOf (a .row) u) came = omega (arith, c .before .before .before .before .compare .ensures, c .before .if2 .taken) in
+    refuses 7 (a .out .now) (far-refused (a .row) (start .pre .0) came u long zero far) (c .refuse2 .ensures)
+
+bytes-held-requires : tie.Need-bytes-held-requires
+bytes-held-requires c κs = sizes (c .before .before .before .before .before .before .before .before .before .before .before .args .row) (c .before .before .before .before .before .before .before .before .before .before .before .pre .0) .check
+
+pack-requires : tie.Need-pack-requires
+pack-requires c κs =
+    let start = c .before .before .before .before .before .before .before .before .before .before .before .before .before in
+    let z = sizes (start .args .row) (start .pre .0) in
+    (omega (arith, c .before .bytes-held .ensures, start .pre .1, z .whole), omega (arith, c .before .bytes-held .ensures, start .pre .6))
+
+cast-answer : tie.Need-cast-answer
+cast-answer c =
+    let start = c .before .before .before .before .before .before .before .before .before .before .before .before .before .before .before .before in
+    record { fits = omega (arith, c .before .before .before .before .bytes-held .ensures, sizes (start .args .row) (start .pre .0) .bytes) }
+
+cast-answer-2 : tie.Need-cast-answer-2
+cast-answer-2 c = record { fits = omega (arith, c .before .before .before .before .before .if2 .left) }
+
+answer-requires : tie.Need-answer-requires
+answer-requires c κs = search needs
+
+same-length-2 : tie.Need-same-length-2
+same-length-2 c = search needs
+
+same-length-3 : tie.Need-same-length-3
+same-length-3 c = search needs
+
+returns-3 : tie.Need-returns-3
+returns-3 c =
+    let start = c .before .before .before .before .before .before .before .before .before .before .before .before .before .before .before .before .before in
+    let a = start .args in
+    let came = map isOne (a .came .now) in
+    let u = map isOne (a .u .now) in
+    let long = length-map (a .u .now) isOne ∙ start .pre .1 in
+    let zero = sym (c .before .before .before .before .before .before .before .before .before .before .before .before .over-zero .ensures) ∙ not-false (c .before .before .before .before .before .before .before .before .before .before .before .before .over-zero .result) (c .before .before .before .before .before .before .before .before .before .before .before .if1 .left) in
+    let d = differences (imageOf (a .row) u) came in
+    let held = c .before .before .before .before .before .bytes-held .ensures in
+    let near : d ≤ 1 = omega (arith, c .before .before .before .before .before .before .before .before .before .compare .ensures, c .before .before .before .before .before .before .if2 .left) in
+    let count : c .before .before .before .before .before .before .before .before .before .compare .result ≡ d = omega (arith, c .before .before .before .before .before .before .before .before .before .compare .ensures, c .before .before .before .before .before .before .if2 .left) in
+    reads (datagramOf (a .row) u) d _ (a .out .now) _
+    (near-accepted (a .row) (start .pre .0) came u long zero near)
+    (length-datagram (a .row) u ∙ sym held)
+    (c .answer .ensures ∙ ap (found (c .before .before .before .before .before .bytes-held .result)) count)
+    (datagram-laid (a .row) u (a .out .now) _ held (c .before .before .before .pack .ensures))
+
+pub accept-spec : {M : Type 1} → statement M
+accept-spec =
+    tie.close
+    (tie.spec
+    over-zero-requires
+    refuse-requires
+    returns
+    compare-requires
+    refuse-requires-2
+    same-length
+    returns-2
+    bytes-held-requires
+    pack-requires
+    cast-answer
+    cast-answer-2
+    answer-requires
+    same-length-2
+    same-length-3
+    returns-3)

@@ -1,0 +1,74 @@
+-- The longest block and the longest image have room for the row's. Assumes nothing.
+use mathlib.Core.Path.{_≡_, sym, _∙_}
+use native.Mathlib.Omega.{arith}
+use Rattle.links.proofs.Facts.{sizes}
+use Rattle.blocks.proofs.Lent.{scratch-enough, length-lent}
+use borrow.Author.Needs.{needs}
+use Rattle.blocks.proofs.reader.read_row.Statement.{statement}
+use Rattle.blocks.proofs.reader.read_row.Tie as tie
+
+cast-k : tie.Need-cast-k
+cast-k c = search needs
+
+block-requires : tie.Need-block-requires
+block-requires c κs = search needs
+
+image-requires : tie.Need-image-requires
+image-requires c κs = search needs
+
+array-borrow-prefix-u : tie.Need-array-borrow-prefix-u
+array-borrow-prefix-u c =
+    let start = c .before .before .before .before .before in
+    let z = sizes (start .args .row) (start .pre .0) in
+    scratch-enough 5616 _ (c .before .block .ensures) (z .block)
+
+slice-aggregate-read-block : tie.Need-slice-aggregate-read-block
+slice-aggregate-read-block c =
+    let start = c .before .before .before .before .before .before in
+    let z = sizes (start .args .row) (start .pre .0) in
+    sym (length-lent 5616 _ (c .before .before .block .ensures) (z .block))
+
+array-borrow-prefix-image : tie.Need-array-borrow-prefix-image
+array-borrow-prefix-image c =
+    let start = c .before .before .before .before .before .before in
+    let z = sizes (start .args .row) (start .pre .0) in
+    scratch-enough 12855 _ (c .before .image .ensures) (omega (arith, start .pre .1, z .image))
+
+slice-aggregate-read-block-2 : tie.Need-slice-aggregate-read-block-2
+slice-aggregate-read-block-2 c =
+    let start = c .before .before .before .before .before .before .before in
+    let z = sizes (start .args .row) (start .pre .0) in
+    sym (length-lent 12855 _ (c .before .before .image .ensures) (omega (arith, start .pre .1, z .image)))
+
+read-block-requires : tie.Need-read-block-requires
+read-block-requires c κs =
+    let start = c .before .before .before .before .before .before .before .before in
+    let z = sizes (start .args .row) (start .pre .0) in (
+      start .pre .0,
+      start .pre .1,
+      start .pre .2,
+      length-lent 5616 _ (c .before .before .before .before .block .ensures) (z .block),
+      length-lent 12855 _ (c .before .before .before .image .ensures) (omega (arith, start .pre .1, z .image)) ∙ start .pre .1,
+      start .pre .3,
+    )
+
+same-length : tie.Need-same-length
+same-length c = search needs
+
+returns : tie.Need-returns
+returns c = c .before .before .before .before .read-block .ensures
+
+pub read-row-spec : {M : Type 1} → statement M
+read-row-spec =
+    tie.close
+    (tie.spec
+    cast-k
+    block-requires
+    image-requires
+    array-borrow-prefix-u
+    slice-aggregate-read-block
+    array-borrow-prefix-image
+    slice-aggregate-read-block-2
+    read-block-requires
+    same-length
+    returns)
