@@ -1,12 +1,13 @@
 // What C calls (include/decklewren.h): the public calls of the crates below, one thin wrapper each, with the same contract.
 use answers::Written;
+use blocks::Block;
 use messages::Step;
 use words::Word;
 ghost use mathlib.Core.Path.{_≡_};
 ghost use lib.ListN.{length};
 ghost use Rattle.answers.specs.Outcome.{Wrote};
 ghost use Rattle.messages.specs.Step.{stepMessage};
-ghost use Rattle.blocks.specs.Calls.{writeBlock};
+ghost use Rattle.blocks.specs.Calls.{writeBlock, readBlock};
 ghost use Rattle.words.specs.Calls.{writeWord, readWord};
 
 #[no_mangle]
@@ -35,4 +36,11 @@ pub extern "C" fn decklewren_write_block(link: u32, datagram: &[u8], out: &mut [
     ensures { λ r. ⌜ Wrote (writeBlock link (now (datagram .entry)) (length (now (out .entry)))) (now (out .entry)) (now (out .exit)) r ⌝ }
 {
     blocks::write(link, datagram, out)
+}
+
+#[no_mangle]
+pub extern "C" fn decklewren_read_block(link: u32, bits: &[u8], out: &mut [u8]) -> Block
+    ensures { λ r. ⌜ Wrote (readBlock link (now (bits .entry)) (length (now (out .entry)))) (now (out .entry)) (now (out .exit)) r ⌝ }
+{
+    blocks::read(link, bits, out)
 }
