@@ -1,9 +1,9 @@
--- The scrambler's loop: what is done, and what the rest of the run does to the rest, make the whole; and it ends where the whole run ends.
+-- The scrambler's loops: what is done, and what the rest of the run does to the rest, make the whole; and it ends where the whole run ends.
 -- Assumes nothing.
 use mathlib.Core.Path.{_≡_, refl, sym, ap, _∙_}
 use mathlib.Core.Bool.{Bool}
 use mathlib.Core.List.{List, _∷_, _++_}
-use Prim.Native.Nat.{ℕ, suc, _+_, _-_, _*_, _/_, _^_, _<_, _≤_, zero-le}
+use Prim.Native.Nat.{ℕ, suc, _+_, _-_, _*_, _/_, _^_, _<_, _≤_}
 use native.Mathlib.Nat.{sub-zero}
 use native.Mathlib.Omega.{arith}
 use lib.Bits.{bitXor}
@@ -18,11 +18,11 @@ use Rattle.scrambler.specs.Scrambler.{cells, output, shifted, after, seq
 use Rattle.scrambler.proofs.Register.{shifted-word, length-shifted, cells-number, number-small}
 use Rattle.scrambler.proofs.Mixed.{mixed-more, mixed-none}
 
--- n bytes of a buffer where the register has come to the i-th of them: what the rest of its run will make of them
+-- what a buffer will be whose first i bytes are done, and whose next n - i the register runs over
 unfoldable pub whole : (n : ℕ) (out : List ℕ) (register i : ℕ) → List ℕ
 whole n out register i = take i out ++ mixed (sequence (n - i) (cells register)) (drop i out)
 
--- from one place of a run to a later one
+-- a loop has come from one place of a run to another
 pub record Running (n : ℕ) (old : List ℕ) (state from : ℕ) (out : List ℕ) (register i : ℕ) : Type 0 where
   pub within : i ≤ n
   pub same : length out ≡ length old
@@ -38,6 +38,7 @@ pub running-at : {n : ℕ} {old out : List ℕ} {state from register next i k : 
     → Running n old state from out next k
 running-at w e p = rw (e, p) w
 
+-- a loop, and then another
 pub running-join : {n : ℕ} {old mid out : List ℕ} {state from register at next i : ℕ} → Running n old state from mid register at
     → Running n mid register at out next i → Running n old state from out next i
 running-join v w =

@@ -17,16 +17,18 @@ pub fn scramble(state: u16, n: usize, out: &mut [u8]) -> u16
     ensures { λ r. ⌜ Scrambles state n (now (out .entry)) (now (out .exit)) r ⌝ }
 {
     let mut register = state;
+    // eight clocks at a time: what cells 14 and 15 will hold is in the cells before them already
     for group in 0..n / 8 {
-        // cell 14 plus cell 15 of this clock, and of the seven that follow: the cells only move on towards them
+        // cell 14 plus cell 15, the lowest digit now and the digits above it at the clocks to come
         let sums = (register >> 1) ^ register;
         for j in 0..8 {
             let i = group * 8 + j;
             out[i] = out[i] ^ (((sums >> j) % 2) as u8);
         }
-        // they are fed into cell 1, one after another
+        // they are fed into cell 1 one after another, and the cells move on
         register = (register >> 8) + ((sums % 256) << 7);
     }
+    // the rest, clock by clock
     for i in n / 8 * 8..n {
         let bit = ((register >> 1) ^ register) % 2;
         out[i] = out[i] ^ (bit as u8);

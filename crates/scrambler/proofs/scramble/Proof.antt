@@ -1,4 +1,4 @@
--- Eight clocks at a time, and the rest bit by bit. Assumes nothing.
+-- Eight clocks at a time, and the rest clock by clock: each loop goes on from where the register has come. Assumes nothing.
 use mathlib.Core.Path.{_≡_, refl}
 use Prim.Native.Nat.{_+_, _-_, _*_, _/_, _≤_}
 use native.Mathlib.Omega.{arith}
@@ -8,8 +8,6 @@ use Rattle.scrambler.proofs.Register.{output-word}
 use Rattle.scrambler.proofs.Running.{Running, running-start, running-at, running-join, running-more, running-done}
 use Rattle.scrambler.proofs.scramble.Statement.{statement}
 use Rattle.scrambler.proofs.scramble.Tie as tie
-use Rattle.scrambler.proofs.scramble.Reads as reads
-use Rattle.scrambler.proofs.scramble.Lts as lts
 
 abbrev Inv-loop2 : tie.InvT-loop2
 Inv-loop2 state n out₀ register group sums j₀ group-end out j = (j ≤ 8) × Running n out₀ register (group * 8) out (ahead register j) (group * 8 + j)
