@@ -251,7 +251,7 @@ pub fn to_be_written(expected: Result<Vec<u8>, Refusal>) -> (Written, Vec<u8>) {
 }
 
 /// A row for a person to read: bits as digits, other bytes in brackets, a long row cut short.
-fn shown(row: &[u8]) -> String {
+pub fn shown(row: &[u8]) -> String {
     let places = row.iter().take(64).map(|byte| match byte {
         0 | 1 => byte.to_string(),
         _ => format!("<{byte}>"),

@@ -1,7 +1,8 @@
-//! Makes the calls of a case that writes a block.
+//! Makes the calls of a case that writes or reads a block.
 
-use crate::archive;
-use crate::both_ways::{code, shown_datagram, to_be_written, Rooms};
+use crate::archive::{self, BlockRead};
+use crate::blocks::BlockReading;
+use crate::both_ways::{code, shown, shown_datagram, to_be_written, Rooms};
 use crate::report::Test;
 use crate::words::Refusal;
 
@@ -27,4 +28,37 @@ pub fn write_block(
         expected,
         |datagram, out| archive::write_block(link, datagram, out),
     );
+}
+
+pub fn read_block(
+    test: &mut Test,
+    rooms: &mut Rooms,
+    link: u32,
+    row: &[u8],
+    length: usize,
+    expected: Result<BlockReading, Refusal>,
+) {
+    let name = || {
+        let row = shown(row);
+        format!("read_block, link {link}, row {row}, buffer of {length} bytes")
+    };
+    let expected = to_be_read(expected);
+    code(test, rooms, name, row, length, expected, |bits, out| {
+        archive::read_block(link, bits, out)
+    });
+}
+
+/// What a reading call is to answer and to write.
+fn to_be_read(expected: Result<BlockReading, Refusal>) -> (BlockRead, Vec<u8>) {
+    let (status, written, wrong) = match expected {
+        Ok(BlockReading { datagram, wrong }) => (0, datagram, wrong),
+        Err(status) => (status, vec![], 0),
+    };
+    let count = written.len() as u32;
+    let answer = BlockRead {
+        status,
+        count,
+        wrong,
+    };
+    (answer, written)
 }

@@ -9,6 +9,7 @@ mod bits;
 mod blocks;
 mod both_ways;
 mod both_ways_blocks;
+mod check_blocks_reading;
 mod check_blocks_writing;
 mod check_coding;
 mod check_links;
@@ -56,6 +57,7 @@ fn main() -> ExitCode {
         check_refusals::TESTS,
         check_messages::TESTS,
         check_blocks_writing::TESTS,
+        check_blocks_reading::TESTS,
     ]
     .concat();
     let (given, chosen) = match arguments.as_slice() {
