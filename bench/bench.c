@@ -11,7 +11,9 @@
 
 enum { ROUNDS = 301, LONGEST = 12855, PAINTED = 262144 };
 
-static uint8_t datagram[698], plain_image[LONGEST], image[LONGEST];
+static uint8_t datagram[698], plain_image[LONGEST], image[LONGEST], came[LONGEST], out[698];
+static size_t came_length;
+static decklewren_block block;
 
 static double now(void) {
     struct timespec t;
@@ -24,29 +26,38 @@ static int by_size(const void *a, const void *b) {
     return (x > y) - (x < y);
 }
 
+/* A call that is measured, on a link whose datagrams have `held` bytes. */
+typedef void call(uint32_t link, size_t held);
+
 static void write_plain(uint32_t link, size_t held) { plain_write_block(link, datagram, held, plain_image); }
 static void write_proved(uint32_t link, size_t held) { decklewren_write_block(link, datagram, held, image, sizeof image); }
+static void read_proved(uint32_t link, size_t held) { block = decklewren_read_block(link, came, came_length, out, held); }
 
-/* The median of the rounds of both, a round of one and of the other in turn. */
-static void measure(uint32_t link, size_t held, int blocks, double *plain, double *proved) {
+/* The median of the rounds of the plain writer and of a call, a round of one and of the other in turn. */
+static void measure(uint32_t link, size_t held, int blocks, call *measured) {
     static double a[ROUNDS], b[ROUNDS];
     for (int round = 0; round < ROUNDS; round++) {
         double start = now();
         for (int i = 0; i < blocks; i++) write_plain(link, held);
         double middle = now();
-        for (int i = 0; i < blocks; i++) write_proved(link, held);
+        for (int i = 0; i < blocks; i++) measured(link, held);
         a[round] = (middle - start) / blocks;
         b[round] = (now() - middle) / blocks;
     }
     qsort(a, ROUNDS, sizeof *a, by_size);
     qsort(b, ROUNDS, sizeof *b, by_size);
-    *plain = a[ROUNDS / 2];
-    *proved = b[ROUNDS / 2];
+    double plain = a[ROUNDS / 2], proved = b[ROUNDS / 2];
+    printf("plain %8.0f ns, proved %8.0f ns, ratio %.2f\n", plain, proved, proved / plain);
 }
 
 static void *call_nothing(void *unused) { return unused; }
 static void *call_write(void *unused) {
     write_proved(19, 698);
+    return unused;
+}
+
+static void *call_read(void *unused) {
+    read_proved(19, 698);
     return unused;
 }
 
@@ -64,22 +75,51 @@ static size_t disturbed(void *(*call)(void *)) {
     return sizeof stack - untouched;
 }
 
-static void compare(uint32_t link, size_t held, int blocks) {
-    double plain, proved;
+static void measure_writing(uint32_t link, size_t held, int blocks) {
     write_plain(link, held);
     write_proved(link, held);
     if (memcmp(plain_image, image, sizeof image) != 0) {
         printf("link %u: the two images differ\n", (unsigned)link);
         exit(1);
     }
-    measure(link, held, blocks, &plain, &proved);
-    printf("write link %2u: plain %8.0f ns, proved %8.0f ns, ratio %.2f\n", (unsigned)link, plain, proved, proved / plain);
+    printf("write link %2u:                 ", (unsigned)link);
+    measure(link, held, blocks, write_proved);
+}
+
+/* Reads what came, which must give this status and this count of wrong places, and then measures it. */
+static void measure_reading(const char *what, uint32_t link, size_t held, int blocks, uint32_t status, uint32_t wrong) {
+    read_proved(link, held);
+    if (block.status != status || block.wrong != wrong) {
+        printf("link %u, %s: status %u, wrong %u\n", (unsigned)link, what, (unsigned)block.status, (unsigned)block.wrong);
+        exit(1);
+    }
+    printf("read  link %2u, %-16s", (unsigned)link, what);
+    measure(link, held, blocks, read_proved);
+}
+
+/* The first bit of an image is the block's first, whose residue is found last; on links 5 and 19 the second is the first clock's Y1. */
+static void measure_all_reading(uint32_t link, size_t held, int blocks) {
+    came_length = decklewren_write_block(link, datagram, held, came, sizeof came).count;
+    measure_reading("clean:", link, held, blocks, 0, 0);
+    came[0] ^= 1;
+    measure_reading("data bit wrong:", link, held, blocks, 0, 1);
+    came[1] ^= 1;
+    measure_reading("two wrong:", link, held, blocks, 7, 0);
+    came[0] ^= 1;
+    measure_reading("parity wrong:", link, held, blocks, 0, 1);
+    for (size_t i = 0; i < came_length; i++) came[i] = (uint8_t)(rand() >> 8 & 1);
+    measure_reading("random bits:", link, held, blocks, 7, 0);
 }
 
 int main(void) {
     for (size_t i = 0; i < sizeof datagram; i++) datagram[i] = (uint8_t)(i * 37 + 11);
-    compare(5, 32, 200);
-    compare(19, 698, 10);
-    printf("stack of a write: %zu bytes\n", disturbed(call_write) - disturbed(call_nothing));
+    measure_writing(5, 32, 200);
+    measure_writing(19, 698, 10);
+    measure_all_reading(5, 32, 200);
+    measure_all_reading(19, 698, 10);
+    size_t none = disturbed(call_nothing);
+    printf("stack of a write: %zu bytes\n", disturbed(call_write) - none);
+    came_length = decklewren_write_block(19, datagram, 698, came, sizeof came).count;
+    printf("stack of a read:  %zu bytes\n", disturbed(call_read) - none);
     return 0;
 }

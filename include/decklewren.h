@@ -14,10 +14,11 @@
    status  when
      0     done
      1     link not offered; number above 63 for a link word
-     2     datagram longer than the link holds; link word of the wrong length
+     2     datagram longer than the link holds; block or link word of the wrong length
      3     output buffer too short
      4     a byte neither 0 nor 1
      6     no code word within seven
+     7     no valid block differs in at most one place
      8     position past the end
      9     fewer than 3 bytes left, length below 7, or message past the end
     10     fill holds another byte */
@@ -44,6 +45,14 @@ typedef struct {
     uint32_t number;
     uint32_t wrong;
 } decklewren_word;
+
+/* What reading a block answers: count is the number of the datagram's bytes laid at the buffer's start,
+   wrong the number of places, 0 or 1, where its image differs. */
+typedef struct {
+    uint32_t status;
+    uint32_t count;
+    uint32_t wrong;
+} decklewren_block;
 
 /* What a step through a datagram answers: where a message starts and its total length; both are 0 where no more follow. */
 typedef struct {
@@ -72,6 +81,14 @@ decklewren_word decklewren_read_word(const uint8_t *bits, size_t bits_len);
    Returns: status 0 and count N; else, the first of these that applies:
             1 link not offered, 2 datagram longer than the link holds, 3 out_len below N */
 decklewren_written decklewren_write_block(uint32_t link, const uint8_t *datagram, size_t datagram_len, uint8_t *out, size_t out_len);
+
+/* Reads the image of a block, with at most one bit of it wrong.
+   In:      link; bits, N bytes 0 or 1, N being the link's
+   Out:     the datagram, all the bytes that the link holds, at the start of out; bytes behind stay
+   Returns: status 0, count, and how many places are wrong; else, the first of these that applies:
+            1 link not offered, 2 bits_len is not N, 3 out_len below the bytes that the link holds,
+            4 a byte neither 0 nor 1, 7 no valid block differs in at most one place */
+decklewren_block decklewren_read_block(uint32_t link, const uint8_t *bits, size_t bits_len, uint8_t *out, size_t out_len);
 
 /* Finds the message that begins at a position of a datagram (docs/MESSAGES.md has the loop that walks one).
    In:      datagram, and any position
