@@ -66,7 +66,7 @@ fn archive_reads_written_blocks(given: &Given, test: &mut Test) {
     let mut random = test.random(201);
     for link in second.links.all() {
         let mut datagrams = vec![vec![], vec![0; link.bytes()], vec![255; link.bytes()]];
-        datagrams.extend((0..30).map(|_| random_datagram(link, &mut random)));
+        datagrams.extend((0..460).map(|_| random_datagram(link, &mut random)));
         for datagram in datagrams {
             let row = image_of(link, &datagram);
             let expected = found(link, &datagram, 0);
@@ -75,23 +75,30 @@ fn archive_reads_written_blocks(given: &Given, test: &mut Test) {
     }
 }
 
-/// Every place of a block of each link; on the longest 2,000 places and the last hundred.
+/// Every place of a block of each link, of three blocks on five of them; on the longest 2,000 places
+/// and the last hundred.
 fn archive_mends_every_wrong_bit(given: &Given, test: &mut Test) {
     let second = Second::read(&given.tables);
     let mut rooms = Rooms::new();
     let mut random = test.random(202);
     for link in second.links.all() {
         let n = link.image_length();
-        let datagram = random_datagram(link, &mut random);
-        let written = image_of(link, &datagram);
-        let places = match n {
-            0..=3000 => (0..n).collect(),
-            _ => [random.places(2000, n - 100), (n - 100..n).collect()].concat(),
+        let blocks = match link.number {
+            5 | 8 | 12 | 20 | 32 => 3,
+            _ => 1,
         };
-        for place in places {
-            let row = inverted(&written, &[place]);
-            let expected = found(link, &datagram, 1);
-            read_block(test, &mut rooms, link.number, &row, link.bytes(), expected);
+        for _ in 0..blocks {
+            let datagram = random_datagram(link, &mut random);
+            let written = image_of(link, &datagram);
+            let places = match n {
+                0..=3000 => (0..n).collect(),
+                _ => [random.places(2000, n - 100), (n - 100..n).collect()].concat(),
+            };
+            for place in places {
+                let row = inverted(&written, &[place]);
+                let expected = found(link, &datagram, 1);
+                read_block(test, &mut rooms, link.number, &row, link.bytes(), expected);
+            }
         }
     }
 }
@@ -116,7 +123,7 @@ fn archive_reads_two_wrong(given: &Given, test: &mut Test) {
     let mut rooms = Rooms::new();
     let mut random = test.random(204);
     for link in second.links.all() {
-        for of_block in [0, 1, 2].repeat(40) {
+        for of_block in [0, 1, 2].repeat(100) {
             let written = image_of(link, &random_datagram(link, &mut random));
             let row = inverted(&written, &two_places(link, of_block, &mut random));
             compare(test, &mut rooms, &second, link.number, &row, link.bytes());
