@@ -6,7 +6,7 @@ use mathlib.Core.List.{List, [], _∷_}
 use Prim.Native.Nat.{ℕ, zero, suc, _+_, _<_, _≤_, zero-le, suc-le-suc}
 use native.Mathlib.Nat.{le-of-suc-le-suc, not-suc-le-zero}
 use native.Mathlib.Numerals.{add-one}
-use lib.ListN.{length, getD, drop, drop-of-length-le}
+use lib.ListN.{length, getD, take, drop, drop-of-length-le}
 use lib.Seq.{drop-cons}
 use Rattle.lists.specs.All.{all}
 
@@ -42,6 +42,13 @@ pub each-all : (p : ℕ → Bool) (s : List ℕ) → ((i : ℕ) → i < length s
 unfolding all
 each-all p [] h = refl
 each-all p (x ∷ s) h = rw (h 0 (suc-le-suc zero-le)) (each-all p s (λ i l. h (suc i) (suc-le-suc l)))
+
+-- the front of a list passes as the whole does
+pub all-take : (p : ℕ → Bool) (n : ℕ) (s : List ℕ) → all p s ≡ true → all p (take n s) ≡ true
+unfolding all
+all-take p zero s e = refl
+all-take p (suc n) [] e = refl
+all-take p (suc n) (x ∷ s) e = let h = both (p x) (all p s) e in rw (h .0) (all-take p n s (h .1))
 
 -- where it fails, it fails at some place
 pub all-fails : (p : ℕ → Bool) (s : List ℕ) → all p s ≡ false → (i : ℕ) × (i < length s) × (p (getD s i 0) ≡ false)

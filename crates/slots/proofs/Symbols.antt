@@ -3,7 +3,7 @@
 use mathlib.Core.Path.{_≡_, refl, ap}
 use mathlib.Core.Bool.{Bool, false}
 use mathlib.Core.List.{List, [], _∷_, map}
-use Prim.Native.Nat.{ℕ, _+_, _*_, _%_, _<_, _≤_}
+use Prim.Native.Nat.{ℕ, _+_, _*_, _/_, _%_, _<_, _≤_}
 use native.Mathlib.Numerals.{add-one}
 use native.Mathlib.Omega.{arith}
 use lib.Dec.{eqb, eqb→eq}
@@ -64,3 +64,12 @@ training-next old out i v h e w =
 
 pub training-room : (old out : List ℕ) (i : ℕ) → i < 27 → Training old out i → 2 * i + 1 < length out
 training-room old out i h w = omega (arith, w .ends, ap length (training-more i h), w .long, w .room, length-training)
+
+-- ---- comparing with them
+-- bit i of the training is that of symbol i / 2
+abbrev twice : ℕ → Bool
+twice i = eqb (getD (map byte training) i 0) (getD characters (i / 2) 0 % 2)
+
+pub training-at : (i : ℕ) → i < 54 → getD (map byte training) i 0 ≡ getD characters (i / 2) 0 % 2
+unfolding training doubled characters symbols highFirst
+training-at i h = eqb→eq (getD (map byte training) i 0) (getD characters (i / 2) 0 % 2) (line 54 twice tt i h)

@@ -29,13 +29,16 @@ abbrev pub headLength : ℕ
 headLength = 86
 
 -- the links that have slot bursts
-abbrev pub isSlotLink : ℕ → Bool
+unfoldable pub isSlotLink : ℕ → Bool
 isSlotLink link = eqb link 5 || (eqb link 6 || eqb link 7)
 
 -- how long a link's slot burst is
 abbrev pub burstLength : ℕ → ℕ
 burstLength link = headLength + imageLength (rowOf link)
 
--- the slot burst of a datagram
+-- the head of a link's slot bursts, and the slot burst of a datagram
+unfoldable pub headOf : ℕ → List Bool
+headOf link = training ++ wordBits link
+
 unfoldable pub burstOf : ℕ → List ℕ → List Bool
-burstOf link datagram = training ++ wordBits link ++ imageOf (rowOf link) (blockOf (rowOf link) datagram)
+burstOf link datagram = headOf link ++ imageOf (rowOf link) (blockOf (rowOf link) datagram)

@@ -1,5 +1,5 @@
 -- What writing and reading a slot burst answer (document 01, "Numbers a caller gets back").
-use mathlib.Core.Bool.{Bool, cond}
+use mathlib.Core.Bool.{cond}
 use mathlib.Core.List.{List, [], map}
 use Prim.Native.Nat.{ℕ}
 use lib.Dec.{eqb, ltb}
@@ -52,21 +52,15 @@ readHead bits =
 abbrev pub refused : ℕ → Outcome Slot
 refused number = record { answer = record { status = number; count = 0; wrong = 0; link = 0; «word_wrong» = 0 }; bytes = [] }
 
--- what was read of the rest, with what was read of the head
-unfoldable pub joined : Word → Outcome Block → Outcome Slot
-joined head block =
-    cond (eqb (block .answer .status) done)
-    (record {
-      answer = record {
-        status = done;
-        count = block .answer .count;
-        wrong = block .answer .wrong;
-        link = head .number;
-        «word_wrong» = head .wrong;
-      };
-      bytes = block .bytes;
-    })
-    (refused (block .answer .status))
+-- what was read of the rest as a block, with what was read of the head
+unfoldable pub both : Word → Block → Slot
+both head block =
+    cond (eqb (block .status) done)
+    (record { status = done; count = block .count; wrong = block .wrong; link = head .number; «word_wrong» = head .wrong })
+    (refused (block .status) .answer)
+
+abbrev pub joined : Word → Outcome Block → Outcome Slot
+joined head block = record { answer = both head (block .answer); bytes = block .bytes }
 
 unfoldable pub readSlot : List ℕ → ℕ → Outcome Slot
 readSlot bits room =

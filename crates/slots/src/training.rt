@@ -1,10 +1,12 @@
 // The training of a slot burst: 27 symbols, each sent as two equal bits.
 ghost use mathlib.Core.Path.{_≡_};
+ghost use mathlib.Core.Bool.{true};
 ghost use mathlib.Core.List.{map};
 ghost use Prim.Native.Nat.{_≤_};
 ghost use lib.ListN.{length};
 ghost use Rattle.lists.specs.Over.{over};
-ghost use Rattle.bits.specs.Bits.{byte};
+ghost use Rattle.bits.specs.Bits.{isOne, byte, allBits};
+ghost use Rattle.bits.specs.Row.{differences};
 ghost use Rattle.slots.specs.Burst.{training};
 
 const SYMBOLS: [u8; 27] = *b"111111001101010000011001010";
@@ -20,4 +22,19 @@ pub fn lay(out: &mut [u8])
         out[2 * i] = bit;
         out[2 * i + 1] = bit;
     }
+}
+
+// In how many of its 54 bits the training that came differs.
+pub fn wrong(came: &[u8]) -> usize
+    requires { ⌜ (length (now came) ≡ 54) × (allBits (now came) ≡ true) ⌝ }
+    ensures { λ r. ⌜ r ≡ differences training (map isOne (now (came .entry))) ⌝ }
+{
+    let symbols = SYMBOLS;
+    let mut count: usize = 0;
+    for i in 0..54 {
+        if came[i] != symbols[i / 2] % 2 {
+            count += 1;
+        }
+    }
+    count
 }

@@ -16,7 +16,7 @@ pub struct Word {
 }
 
 // Reading refuses with a number.
-fn refuse(status: u32) -> Word
+pub fn refuse(status: u32) -> Word
     ensures { λ r. ⌜ r ≡ refused status ⌝ }
 {
     Word {

@@ -1,0 +1,39 @@
+-- How the reader shows its contract: the head was refused, or the rest was read as a block.
+-- Assumes nothing.
+use mathlib.Core.Path.{_≡_, refl, sym, ap, _∙_}
+use mathlib.Core.Bool.{Bool, true, false}
+use mathlib.Core.List.{List}
+use Prim.Native.Nat.{ℕ, _≤_}
+use native.Mathlib.Omega.{arith}
+use lib.Dec.{ltb}
+use lib.ListN.{length, drop}
+use borrow.Author.Tests.{ltb-true, ltb-false}
+use Rattle.answers.specs.Numbers.{done}
+use Rattle.answers.specs.Outcome.{Wrote}
+use Rattle.blocks.specs.declared.Block.{Block}
+use Rattle.blocks.specs.Calls.{readBlock}
+use Rattle.words.specs.declared.Word.{Word}
+use Rattle.slots.specs.declared.Slot.{Slot}
+use Rattle.slots.specs.Burst.{headLength}
+use Rattle.slots.specs.Calls.{readHead, refused, both, readSlot}
+use Rattle.slots.proofs.Calls.{head-short, read-refused, read-joined}
+
+-- a head that is read is all there
+pub head-long : (burst : List ℕ) {head : Word} → head ≡ readHead burst → head .status ≡ done → headLength ≤ length burst
+head-long burst {head} e z = decided (ltb (length burst) headLength) refl
+  where
+    decided : (short : Bool) → ltb (length burst) headLength ≡ short → headLength ≤ length burst
+    decided true s = absurd (omega (arith, z, ap (λ (w : Word). w .status) (e ∙ head-short burst (ltb-true (length burst) headLength s))))
+    decided false s = ltb-false (length burst) headLength s
+
+module _ (burst old : List ℕ) {head : Word} (e : head ≡ readHead burst) where
+  pub refuses : (head .status ≡ done → ⊥) → {answer : Slot} → answer ≡ refused (head .status) .answer → Wrote (readSlot burst (length old)) old old answer
+  refuses h a =
+      let status = ap (λ (w : Word). w .status) e in
+      rw (read-refused burst (length old) (λ z. h (status ∙ z)), a ∙ ap (λ (n : ℕ). refused n .answer) status) (record { answers = refl; leaves = refl })
+
+  pub joins : head .status ≡ done → (rest : List ℕ) → rest ≡ drop headLength burst → (new : List ℕ) {block : Block}
+      → Wrote (readBlock (head .number) rest (length old)) old new block → {answer : Slot} → answer ≡ both head block → Wrote (readSlot burst (length old)) old new answer
+  joins z rest r new w a =
+      let whole = read-joined burst (length old) (sym (ap (λ (w : Word). w .status) e) ∙ z) in
+      rw (whole, a, ← e, ← r) (record { answers = ap (both head) (w .answers); leaves = w .leaves })

@@ -1,0 +1,73 @@
+-- How the writer shows its contract: the head is laid, and the block in the part behind it.
+-- Assumes nothing.
+use mathlib.Core.Path.{_≡_, sym, ap, _∙_}
+use mathlib.Core.Bool.{true}
+use mathlib.Core.List.{List, _++_, map, map-append}
+use Prim.Native.Nat.{ℕ, _+_, _-_, _≤_}
+use native.Mathlib.Omega.{arith}
+use lib.Dec.{T}
+use lib.ListN.{length, take, drop, length-map, length-append, length-drop}
+use Rattle.answers.specs.declared.Written.{Written}
+use Rattle.answers.specs.Written.{wrote}
+use Rattle.answers.specs.Outcome.{Outcome, laid, Wrote, writing}
+use Rattle.answers.proofs.Writing.{writes}
+use Rattle.lists.specs.Over.{over}
+use Rattle.lists.proofs.Over.{over-length}
+use Rattle.lists.proofs.Parts.{part-rest}
+use Rattle.bits.specs.Bits.{byte}
+use Rattle.links.specs.Good.{goodRow}
+use Rattle.links.specs.Rows.{rowOf}
+use Rattle.links.specs.Sizes.{bytesHeld, imageLength}
+use Rattle.links.proofs.Good.{good}
+use Rattle.blocks.specs.Block.{blockOf, imageOf}
+use Rattle.blocks.specs.Calls.{writeBlock}
+use Rattle.blocks.proofs.Blocks.{length-block}
+use Rattle.blocks.proofs.Calls.{write-done as block-done}
+use Rattle.blocks.proofs.Sound.{length-image}
+use Rattle.slots.specs.Burst.{headLength, isSlotLink, burstLength, headOf, burstOf}
+use Rattle.slots.specs.Calls.{writeSlot}
+use Rattle.slots.proofs.Calls.{write-done}
+use Rattle.slots.proofs.HeadLaid.{length-head}
+use Rattle.slots.proofs.Links.{slot-offered}
+use Rattle.slots.proofs.Part.{part-laid}
+
+-- the part of a buffer behind the head
+abbrev pub behindHead : List ℕ → List ℕ
+behindHead out = take (length out - headLength) (drop headLength out)
+
+module _ (link : ℕ) (o : isSlotLink link ≡ true) (datagram : List ℕ) (fits : length datagram ≤ bytesHeld (rowOf link)) where
+  -- the bits that stand behind the head, as bytes
+  abbrev image : List ℕ
+  image = map byte (imageOf (rowOf link) (blockOf (rowOf link) datagram))
+
+  long-image : length image ≡ imageLength (rowOf link)
+  long-image =
+      let row-good : T (goodRow (rowOf link)) = good link (slot-offered link o) in
+      length-map (imageOf (rowOf link) (blockOf (rowOf link) datagram)) byte ∙ length-image (rowOf link) row-good _ (length-block (rowOf link) row-good datagram fits)
+
+  burst-parts : map byte (burstOf link datagram) ≡ map byte (headOf link) ++ image
+  unfolding burstOf
+  burst-parts = map-append byte (headOf link) (imageOf (rowOf link) (blockOf (rowOf link) datagram))
+
+  long-burst : length (map byte (burstOf link datagram)) ≡ burstLength link
+  long-burst = omega (arith, ap length burst-parts, length-append (map byte (headOf link)) image, length-head link, long-image)
+
+  module _ (old mid part : List ℕ) {block : Written} (room : burstLength link ≤ length old) (head : mid ≡ over 0 (map byte (headOf link)) old)
+      (rest : Wrote (writeBlock link datagram (length (behindHead mid))) (behindHead mid) part block) where
+    enough : imageLength (rowOf link) ≤ length (behindHead mid)
+    enough =
+        omega (arith, room, ap length (part-rest headLength mid), length-drop headLength mid, ap length head, over-length 0 (map byte (headOf link)) old (omega (arith, length-head link, room)))
+
+    block-laid : writeBlock link datagram (length (behindHead mid)) ≡ writing image
+    block-laid = block-done link datagram (length (behindHead mid)) (slot-offered link o) fits enough
+
+    pub counted : block .count ≡ imageLength (rowOf link)
+    counted = ap (λ (w : Written). w .count) (rest .answers) ∙ ap (λ (w : Outcome Written). w .answer .count) block-laid ∙ long-image
+
+    pub written : {answer : Written} → answer ≡ wrote (headLength + block .count)
+        → Wrote (writeSlot link datagram (length old)) old (take headLength mid ++ (part ++ drop (length mid - headLength) (drop headLength mid))) answer
+    written a =
+        let second = rest .leaves ∙ ap (λ (w : Outcome Written). laid (w .bytes) (behindHead mid)) block-laid in
+        let bytes = map byte (burstOf link datagram) in
+        writes bytes old _ (headLength + block .count) (write-done link datagram (length old) o fits room) (omega (arith, long-burst, counted)) a
+        (part-laid (map byte (headOf link)) image old mid part headLength (length-head link) head second ∙ ap (λ (l : List ℕ). laid l old) (sym burst-parts))

@@ -1,0 +1,29 @@
+-- The training, and the link word behind it. Assumes nothing.
+use borrow.Author.Needs.{needs}
+use Rattle.slots.proofs.HeadLaid.{head-laid}
+use Rattle.slots.proofs.head.lay.Statement.{statement}
+use Rattle.slots.proofs.head.lay.Tie as tie
+
+lay-requires : tie.Need-lay-requires
+lay-requires c κs = search needs
+
+word-of-requires : tie.Need-word-of-requires
+word-of-requires c κs = search needs
+
+lay-row-requires : tie.Need-lay-row-requires
+lay-row-requires c κs = search needs
+
+same-length : tie.Need-same-length
+same-length c = search needs
+
+returns : tie.Need-returns
+returns c =
+    let start = c .before .before .before .before .before .before .before .before .before .before in
+    head-laid (start .args .link) (start .args .out .now) _ _ _ (start .pre .1)
+    (c .before .before .before .before .before .before .before .lay .ensures)
+    (c .before .before .before .before .word-of .ensures)
+    (c .before .before .lay-row .ensures)
+
+pub lay-spec : {M : Type 1} → statement M
+lay-spec =
+    tie.close (tie.spec lay-requires word-of-requires lay-row-requires same-length returns)

@@ -1,0 +1,56 @@
+-- A refusal of the head is the whole answer; else the rest is read as a block, and joined with the head. Assumes nothing.
+use borrow.Author.Needs.{needs}
+use Rattle.lists.proofs.Parts.{part-rest}
+use Rattle.slots.proofs.Reading.{refuses, joins, head-long}
+use Rattle.slots.proofs.reader.read.Statement.{statement}
+use Rattle.slots.proofs.reader.read.Tie as tie
+
+read-requires : tie.Need-read-requires
+read-requires c κs = search needs
+
+refuse-requires : tie.Need-refuse-requires
+refuse-requires c κs = search needs
+
+returns : tie.Need-returns
+returns c =
+    let a = c .before .before .before .before .before .before .args in
+    refuses (a .burst .now) (a .out .now) (c .before .before .before .read .ensures) (c .before .if1 .taken) (c .refuse .ensures)
+
+sub-read : tie.Need-sub-read
+sub-read c = head-long (c .before .before .before .before .before .args .burst .now) (c .before .before .read .ensures) (c .if1 .left)
+
+part-read-start : tie.Need-part-read-start
+part-read-start c = head-long (c .before .before .before .before .before .args .burst .now) (c .before .before .read .ensures) (c .if1 .left)
+
+part-read-end : tie.Need-part-read-end
+part-read-end c = search needs
+
+read-requires-2 : tie.Need-read-requires-2
+read-requires-2 c κs = search needs
+
+join-requires : tie.Need-join-requires
+join-requires c κs = search needs
+
+same-length : tie.Need-same-length
+same-length c = search needs
+
+returns-2 : tie.Need-returns-2
+returns-2 c =
+    let a = c .before .before .before .before .before .before .before .before .before .before .before .args in
+    let head = c .before .before .before .before .before .before .before .before .read in
+    joins (a .burst .now) (a .out .now) (head .ensures) (c .before .before .before .before .before .before .if1 .left) _ (part-rest 86 (a .burst .now)) _ (c .before .before .before .read2 .ensures) (c .join .ensures)
+
+pub read-spec : {M : Type 1} → statement M
+read-spec =
+    tie.close
+    (tie.spec
+    read-requires
+    refuse-requires
+    returns
+    sub-read
+    part-read-start
+    part-read-end
+    read-requires-2
+    join-requires
+    same-length
+    returns-2)
