@@ -2,12 +2,14 @@
 use answers::Written;
 use blocks::Block;
 use messages::Step;
+use slots::Slot;
 use words::Word;
 ghost use mathlib.Core.Path.{_≡_};
 ghost use lib.ListN.{length};
 ghost use Rattle.answers.specs.Outcome.{Wrote};
 ghost use Rattle.messages.specs.Step.{stepMessage};
 ghost use Rattle.blocks.specs.Calls.{writeBlock, readBlock};
+ghost use Rattle.slots.specs.Calls.{writeSlot, readSlot};
 ghost use Rattle.words.specs.Calls.{writeWord, readWord};
 
 #[no_mangle]
@@ -43,4 +45,18 @@ pub extern "C" fn decklewren_read_block(link: u32, bits: &[u8], out: &mut [u8]) 
     ensures { λ r. ⌜ Wrote (readBlock link (now (bits .entry)) (length (now (out .entry)))) (now (out .entry)) (now (out .exit)) r ⌝ }
 {
     blocks::read(link, bits, out)
+}
+
+#[no_mangle]
+pub extern "C" fn decklewren_write_slot(link: u32, datagram: &[u8], out: &mut [u8]) -> Written
+    ensures { λ r. ⌜ Wrote (writeSlot link (now (datagram .entry)) (length (now (out .entry)))) (now (out .entry)) (now (out .exit)) r ⌝ }
+{
+    slots::write(link, datagram, out)
+}
+
+#[no_mangle]
+pub extern "C" fn decklewren_read_slot(burst: &[u8], out: &mut [u8]) -> Slot
+    ensures { λ r. ⌜ Wrote (readSlot (now (burst .entry)) (length (now (out .entry)))) (now (out .entry)) (now (out .exit)) r ⌝ }
+{
+    slots::read(burst, out)
 }
