@@ -43,12 +43,18 @@ unfolding all
 each-all p [] h = refl
 each-all p (x ∷ s) h = rw (h 0 (suc-le-suc zero-le)) (each-all p s (λ i l. h (suc i) (suc-le-suc l)))
 
--- the front of a list passes as the whole does
+-- the front and the rest of a list pass as the whole does
 pub all-take : (p : ℕ → Bool) (n : ℕ) (s : List ℕ) → all p s ≡ true → all p (take n s) ≡ true
 unfolding all
 all-take p zero s e = refl
 all-take p (suc n) [] e = refl
 all-take p (suc n) (x ∷ s) e = let h = both (p x) (all p s) e in rw (h .0) (all-take p n s (h .1))
+
+pub all-drop : (p : ℕ → Bool) (n : ℕ) (s : List ℕ) → all p s ≡ true → all p (drop n s) ≡ true
+unfolding all
+all-drop p zero s e = e
+all-drop p (suc n) [] e = refl
+all-drop p (suc n) (x ∷ s) e = all-drop p n s (both (p x) (all p s) e .1)
 
 -- where it fails, it fails at some place
 pub all-fails : (p : ℕ → Bool) (s : List ℕ) → all p s ≡ false → (i : ℕ) × (i < length s) × (p (getD s i 0) ≡ false)

@@ -4,7 +4,7 @@ use mathlib.Core.Path.{_≡_}
 use mathlib.Core.Bool.{true, false}
 use mathlib.Core.List.{List, map}
 use Prim.Native.Nat.{ℕ, _<_, _≤_}
-use lib.ListN.{length, take, drop}
+use lib.ListN.{length}
 use borrow.Author.Tests.{lt-ltb, le-ltb, eq-eqb, ne-eqb}
 use Rattle.answers.specs.Numbers.{done, notOffered, wrongLength, noRoom, noBit, noTraining}
 use Rattle.answers.specs.Outcome.{refusal, writing}
@@ -14,8 +14,8 @@ use Rattle.links.specs.Rows.{rowOf}
 use Rattle.links.specs.Sizes.{bytesHeld}
 use Rattle.words.specs.declared.Word.{Word}
 use Rattle.words.specs.Calls.{readWord, refused as refusedWord}
-use Rattle.slots.specs.Burst.{headLength, isSlotLink, burstLength, burstOf}
-use Rattle.slots.specs.Calls.{writeSlot, trainingWrong, wordOfBurst, slotWord, readHead, refused, joined, readSlot}
+use Rattle.slots.specs.Burst.{headLength, headPart, wordPart, blockPart, isSlotLink, burstLength, burstOf}
+use Rattle.slots.specs.Calls.{writeSlot, trainingWrong, slotWord, readHead, refused, joined, readSlot}
 
 -- ---- writing
 module _ (link : ℕ) (datagram : List ℕ) (room : ℕ) where
@@ -59,16 +59,16 @@ module _ (burst : List ℕ) where
   head-short h = rw (lt-ltb (length burst) headLength h)
 
   module _ (long : headLength ≤ length burst) where
-    pub head-no-bit : allBits (take headLength burst) ≡ false → readHead burst ≡ refusedWord noBit
+    pub head-no-bit : allBits (headPart burst) ≡ false → readHead burst ≡ refusedWord noBit
     unfolding readHead
     head-no-bit h = rw (le-ltb (length burst) headLength long, h)
 
-    module _ (all : allBits (take headLength burst) ≡ true) where
+    module _ (all : allBits (headPart burst) ≡ true) where
       pub head-no-training : (trainingWrong burst ≡ 0 → ⊥) → readHead burst ≡ refusedWord noTraining
       unfolding readHead
       head-no-training h = rw (le-ltb (length burst) headLength long, all, ne-eqb (trainingWrong burst) 0 h)
 
-      pub head-word : trainingWrong burst ≡ 0 → readHead burst ≡ slotWord (readWord (wordOfBurst burst))
+      pub head-word : trainingWrong burst ≡ 0 → readHead burst ≡ slotWord (readWord (wordPart burst))
       unfolding readHead
       head-word h = rw (le-ltb (length burst) headLength long, all, eq-eqb (trainingWrong burst) 0 h)
 
@@ -79,6 +79,6 @@ module _ (burst : List ℕ) (room : ℕ) where
   read-refused h = rw (ne-eqb (readHead burst .status) done h)
 
   pub read-joined : readHead burst .status ≡ done
-      → readSlot burst room ≡ joined (readHead burst) (readBlock (readHead burst .number) (drop headLength burst) room)
+      → readSlot burst room ≡ joined (readHead burst) (readBlock (readHead burst .number) (blockPart burst) room)
   unfolding readSlot
   read-joined h = rw (eq-eqb (readHead burst .status) done h)

@@ -4,4 +4,6 @@ pub mod Links
 pub mod Part
 pub mod Reading
 pub mod Symbols
+pub mod WaysOfReading
+pub mod WaysOfWriting
 pub mod Writing

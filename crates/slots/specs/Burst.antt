@@ -3,6 +3,7 @@ use mathlib.Core.Bool.{Bool, _||_}
 use mathlib.Core.List.{List, [], _∷_, _++_}
 use Prim.Native.Nat.{ℕ, _+_}
 use lib.Dec.{eqb}
+use lib.ListN.{take, drop}
 use Rattle.bits.specs.Row.{highFirst}
 use Rattle.blocks.specs.Block.{blockOf, imageOf}
 use Rattle.links.specs.Rows.{rowOf}
@@ -27,6 +28,20 @@ trainingLength = 54
 
 abbrev pub headLength : ℕ
 headLength = 86
+
+-- the head of what came, its training and its link word, and its block
+module _ {A : Type 0} where
+  abbrev pub headPart : List A → List A
+  headPart came = take headLength came
+
+  abbrev pub trainingPart : List A → List A
+  trainingPart came = take trainingLength came
+
+  abbrev pub wordPart : List A → List A
+  wordPart came = take 32 (drop trainingLength came)
+
+  abbrev pub blockPart : List A → List A
+  blockPart came = drop headLength came
 
 -- the links that have slot bursts
 unfoldable pub isSlotLink : ℕ → Bool

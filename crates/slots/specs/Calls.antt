@@ -3,7 +3,7 @@ use mathlib.Core.Bool.{cond}
 use mathlib.Core.List.{List, [], map}
 use Prim.Native.Nat.{ℕ}
 use lib.Dec.{eqb, ltb}
-use lib.ListN.{length, take, drop}
+use lib.ListN.{length}
 use Rattle.answers.specs.declared.Written.{Written}
 use Rattle.answers.specs.Numbers.{done, notOffered, wrongLength, noRoom, noBit, noTraining}
 use Rattle.answers.specs.Outcome.{Outcome, refusal, writing}
@@ -16,7 +16,7 @@ use Rattle.links.specs.Sizes.{bytesHeld}
 use Rattle.words.specs.declared.Word.{Word}
 use Rattle.words.specs.Calls.{readWord, refused as refusedWord}
 use Rattle.slots.specs.declared.Slot.{Slot}
-use Rattle.slots.specs.Burst.{training, trainingLength, headLength, isSlotLink, burstLength, burstOf}
+use Rattle.slots.specs.Burst.{training, headLength, headPart, trainingPart, wordPart, blockPart, isSlotLink, burstLength, burstOf}
 
 -- ---- writing, in the order 1, 2, 3
 unfoldable pub writeSlot : ℕ → List ℕ → ℕ → Outcome Written
@@ -30,11 +30,7 @@ writeSlot link datagram room =
 -- ---- reading: the head, in the order 2, 4, 5, 6, 1; then the rest as a block
 -- in how many bits the training of a burst differs
 unfoldable pub trainingWrong : List ℕ → ℕ
-trainingWrong bits = differences training (map isOne (take trainingLength bits))
-
--- the link word of a burst
-abbrev pub wordOfBurst : List ℕ → List ℕ
-wordOfBurst bits = take 32 (drop trainingLength bits)
+trainingWrong bits = differences training (map isOne (trainingPart bits))
 
 -- a word that was read is that of a slot link, or it is refused with 1
 unfoldable pub slotWord : Word → Word
@@ -44,13 +40,20 @@ slotWord word = cond (eqb (word .status) done) (cond (isSlotLink (word .number))
 unfoldable pub readHead : List ℕ → Word
 readHead bits =
     cond (ltb (length bits) headLength) (refusedWord wrongLength)
-    (cond (allBits (take headLength bits))
-    (cond (eqb (trainingWrong bits) 0) (slotWord (readWord (wordOfBurst bits))) (refusedWord noTraining))
+    (cond (allBits (headPart bits))
+    (cond (eqb (trainingWrong bits) 0) (slotWord (readWord (wordPart bits))) (refusedWord noTraining))
     (refusedWord noBit))
 
 -- a reader that refuses: the number, and 0 for all else
 abbrev pub refused : ℕ → Outcome Slot
 refused number = record { answer = record { status = number; count = 0; wrong = 0; link = 0; «word_wrong» = 0 }; bytes = [] }
+
+-- a reader that answers a datagram, with the count of wrong places, the link and the count of wrong places of its word
+abbrev pub reading : List ℕ → ℕ → ℕ → ℕ → Outcome Slot
+reading datagram wrong link wordWrong = record {
+  answer = record { status = done; count = length datagram; wrong = wrong; link = link; «word_wrong» = wordWrong };
+  bytes = datagram;
+}
 
 -- what was read of the rest as a block, with what was read of the head
 unfoldable pub both : Word → Block → Slot
@@ -64,5 +67,5 @@ joined head block = record { answer = both head (block .answer); bytes = block .
 
 unfoldable pub readSlot : List ℕ → ℕ → Outcome Slot
 readSlot bits room =
-    cond (eqb (readHead bits .status) done) (joined (readHead bits) (readBlock (readHead bits .number) (drop headLength bits) room))
+    cond (eqb (readHead bits .status) done) (joined (readHead bits) (readBlock (readHead bits .number) (blockPart bits) room))
     (refused (readHead bits .status))

@@ -1,0 +1,131 @@
+-- The ways that reading a slot burst goes, line by line as document 01 numbers them: 2, 4, 5, 6, 1 of the head, 2, 3, 4, 7 of the
+-- rest, done.
+-- Assumes nothing.
+use mathlib.Core.Path.{_≡_, refl, sym, ap, _∙_}
+use mathlib.Core.Bool.{Bool, true, false, true≢false}
+use mathlib.Core.List.{List, map}
+use Prim.Native.Nat.{ℕ, _-_, _<_, _≤_}
+use native.Mathlib.Omega.{arith}
+use lib.Dec.{eqb, ltb}
+use lib.ListN.{length, take, drop, length-drop}
+use lib.Seq.{length-take-le}
+use borrow.Author.Tests.{eqb-true, eqb-false, ltb-true, ltb-false}
+use Rattle.answers.specs.Numbers.{notOffered, wrongLength, noRoom, noBit, noTraining, noWord, noBlock}
+use Rattle.answers.specs.Outcome.{Outcome}
+use Rattle.lists.proofs.All.{all-drop}
+use Rattle.lists.proofs.Parts.{drop-take}
+use Rattle.bits.specs.Bits.{isOne, allBits}
+use Rattle.bits.specs.Row.{differences}
+use Rattle.bits.proofs.Differences.{differences-self, differences-zero}
+use Rattle.links.specs.Rows.{rowOf}
+use Rattle.links.specs.Sizes.{bytesHeld, imageLength}
+use Rattle.blocks.specs.declared.Block.{Block}
+use Rattle.blocks.specs.Block.{imageOf, datagramOf}
+use Rattle.blocks.specs.Near.{Near as NearBlock}
+use Rattle.blocks.specs.Calls.{readBlock}
+use Rattle.blocks.proofs.WaysOfReading as b
+use Rattle.words.specs.Near.{Near as NearWord}
+use Rattle.words.specs.Calls.{readWord, found, refused as refusedWord}
+use Rattle.words.proofs.Ways as w
+use Rattle.slots.specs.Burst.{training, trainingLength, headLength, headPart, trainingPart, wordPart, blockPart, isSlotLink}
+use Rattle.slots.specs.Calls.{trainingWrong, slotWord, readHead, refused, reading, both, joined, readSlot}
+use Rattle.slots.proofs.Calls.{word-refused, word-no-slot, word-slot, head-short, head-no-bit, head-no-training, head-word, read-refused, read-joined}
+use Rattle.slots.proofs.Links.{slot-offered}
+
+-- the head is there, made of bits, with the training
+pub record Trained (burst : List ℕ) : Type 0 where
+  pub long : headLength ≤ length burst
+  pub bits : allBits (headPart burst) ≡ true
+  pub same : map isOne (trainingPart burst) ≡ training
+
+-- and its word is near that of a slot link
+pub record Headed (burst : List ℕ) (link wrong : ℕ) : Type 0 where
+  pub trained : Trained burst
+  pub word : NearWord (map isOne (wordPart burst)) link wrong
+  pub slot : isSlotLink link ≡ true
+
+-- as many bits behind it as the link's images have, and room for the datagram
+pub record Sized (burst : List ℕ) (room link : ℕ) : Type 0 where
+  pub size : length (blockPart burst) ≡ imageLength (rowOf link)
+  pub fits : bytesHeld (rowOf link) ≤ room
+
+pub data Reading (burst : List ℕ) (room : ℕ) : Type 0 where
+  too-few : length burst < headLength → readSlot burst room ≡ refused wrongLength → Reading burst room
+  no-bits : headLength ≤ length burst → allBits (headPart burst) ≡ false → readSlot burst room ≡ refused noBit → Reading burst room
+  no-training : headLength ≤ length burst → allBits (headPart burst) ≡ true → (map isOne (trainingPart burst) ≡ training → ⊥) → readSlot burst room ≡ refused noTraining → Reading burst room
+  no-word : Trained burst → w.NoneNear (map isOne (wordPart burst)) 64 → readSlot burst room ≡ refused noWord → Reading burst room
+  no-slot : Trained burst → (link wrong : ℕ) → NearWord (map isOne (wordPart burst)) link wrong → isSlotLink link ≡ false → readSlot burst room ≡ refused notOffered → Reading burst room
+  no-length : (link wrong : ℕ) → Headed burst link wrong → (length (blockPart burst) ≡ imageLength (rowOf link) → ⊥) → readSlot burst room ≡ refused wrongLength → Reading burst room
+  too-short : (link wrong : ℕ) → Headed burst link wrong → length (blockPart burst) ≡ imageLength (rowOf link) → room < bytesHeld (rowOf link)
+      → readSlot burst room ≡ refused noRoom → Reading burst room
+  rest-no-bits : (link wrong : ℕ) → Headed burst link wrong → Sized burst room link → allBits (blockPart burst) ≡ false → readSlot burst room ≡ refused noBit → Reading burst room
+  none-near : (link wrong : ℕ) → Headed burst link wrong → Sized burst room link → allBits (blockPart burst) ≡ true
+      → ((u : List Bool) → NearBlock (rowOf link) (map isOne (blockPart burst)) u → ⊥) → readSlot burst room ≡ refused noBlock → Reading burst room
+  reads : (link wrong : ℕ) → Headed burst link wrong → Sized burst room link → allBits (blockPart burst) ≡ true
+      → (u : List Bool) → NearBlock (rowOf link) (map isOne (blockPart burst)) u
+      → readSlot burst room ≡ reading (datagramOf (rowOf link) u) (differences (imageOf (rowOf link) u) (map isOne (blockPart burst))) link wrong → Reading burst room
+
+module _ (burst : List ℕ) (room : ℕ) where
+  -- a refusal of the head is the answer
+  head-refuses : (number : ℕ) → (number ≡ 0 → ⊥) → readHead burst ≡ refusedWord number → readSlot burst room ≡ refused number
+  head-refuses number h e = rw (read-refused burst room (rw e h), e)
+
+  -- what the rest is read as, joined with the head
+  module _ (link wrong : ℕ) (head : readHead burst ≡ found link wrong) (h : Headed burst link wrong) where
+    is-joined : {block : Outcome Block} → readBlock link (blockPart burst) room ≡ block → readSlot burst room ≡ joined (found link wrong) block
+    is-joined e = read-joined burst room (rw head) ∙ rw (head, e)
+
+    rest-goes : b.Reading link (blockPart burst) room → Reading burst room
+    unfolding both
+    rest-goes (b.unoffered f e) = absurd (true≢false (sym (slot-offered link (h .slot)) ∙ f))
+    rest-goes (b.no-length o s e) = no-length link wrong h s (is-joined e)
+    rest-goes (b.too-short o s r e) = too-short link wrong h s r (is-joined e)
+    rest-goes (b.no-bits o s r a e) = rest-no-bits link wrong h (record { size = s; fits = r }) a (is-joined e)
+    rest-goes (b.none-near o s r a f e) = none-near link wrong h (record { size = s; fits = r }) a f (is-joined e)
+    rest-goes (b.reads o s r a u n e) = reads link wrong h (record { size = s; fits = r }) a u n (is-joined e)
+
+  -- the word of a head that is there and made of bits is, too
+  module _ (t : Trained burst) (tried : readHead burst ≡ slotWord (readWord (wordPart burst))) where
+    word-long : length (wordPart burst) ≡ 32
+    word-long = length-take-le 32 (drop trainingLength burst) (omega (arith, t .long, length-drop trainingLength burst))
+
+    word-bits : allBits (wordPart burst) ≡ true
+    word-bits = ap allBits (sym (drop-take trainingLength headLength burst)) ∙ all-drop _ trainingLength (headPart burst) (t .bits)
+
+    named : (link wrong : ℕ) → NearWord (map isOne (wordPart burst)) link wrong → readHead burst ≡ slotWord (found link wrong) → (slot : Bool) → isSlotLink link ≡ slot → Reading burst room
+    named link wrong n e true s =
+        rest-goes link wrong (e ∙ word-slot (found link wrong) refl s) (record { trained = t; word = n; slot = s }) (b.reading-goes link (blockPart burst) room)
+    named link wrong n e false s = no-slot t link wrong n s (head-refuses notOffered (λ z. omega (arith, z)) (e ∙ word-no-slot (found link wrong) refl s))
+
+    word-goes : w.Reading (wordPart burst) → Reading burst room
+    word-goes (w.no-length l e) = absurd (l word-long)
+    word-goes (w.no-bits l a e) = absurd (true≢false (sym word-bits ∙ a))
+    word-goes (w.none-near l a f e) = no-word t f (head-refuses noWord (λ z. omega (arith, z)) (tried ∙ ap slotWord e ∙ word-refused (refusedWord noWord) (λ z. omega (arith, z))))
+    word-goes (w.reads l a n wrong near e) = named n wrong near (tried ∙ ap slotWord e) (isSlotLink n) refl
+
+  same-training : trainingWrong burst ≡ 0 → map isOne (trainingPart burst) ≡ training
+  unfolding trainingWrong
+  same-training e = sym (differences-zero training (map isOne (trainingPart burst)) e)
+
+  training-wrong : map isOne (trainingPart burst) ≡ training → trainingWrong burst ≡ 0
+  unfolding trainingWrong
+  training-wrong e = rw e (differences-self training)
+
+  pub reading-goes : Reading burst room
+  reading-goes = decided (ltb (length burst) headLength) (allBits (headPart burst)) (eqb (trainingWrong burst) 0) refl refl refl
+    where
+      decided : (short all same : Bool) → ltb (length burst) headLength ≡ short → allBits (headPart burst) ≡ all → eqb (trainingWrong burst) 0 ≡ same → Reading burst room
+      decided true all same s a t =
+          let h = ltb-true (length burst) headLength s in
+          too-few h (head-refuses wrongLength (λ z. omega (arith, z)) (head-short burst h))
+      decided false false same s a t =
+          let l = ltb-false (length burst) headLength s in
+          no-bits l a (head-refuses noBit (λ z. omega (arith, z)) (head-no-bit burst l a))
+      decided false true false s a t =
+          let l = ltb-false (length burst) headLength s in
+          let other = eqb-false (trainingWrong burst) 0 t in
+          no-training l a (λ e. other (training-wrong e)) (head-refuses noTraining (λ z. omega (arith, z)) (head-no-training burst l a other))
+      decided false true true s a t =
+          let l = ltb-false (length burst) headLength s in
+          let same = eqb-true (trainingWrong burst) 0 t in
+          word-goes (record { long = l; bits = a; same = same-training same }) (head-word burst l a same) (w.reading-goes (wordPart burst))

@@ -1,0 +1,18 @@
+-- What demand 3 says of a slot burst: its training is right, one of the words of the slot links is within seven places of its word,
+-- and a valid block's image of that link is within one place of the rest.
+use mathlib.Core.Path.{_≡_}
+use mathlib.Core.Bool.{Bool, true}
+use mathlib.Core.List.{List}
+use Prim.Native.Nat.{ℕ}
+use lib.ListN.{length}
+use Rattle.blocks.specs.Near.{Near as NearBlock}
+use Rattle.links.specs.Rows.{rowOf}
+use Rattle.words.specs.Near.{Near as NearWord}
+use Rattle.slots.specs.Burst.{training, isSlotLink, burstLength, trainingPart, wordPart, blockPart}
+
+pub record Near (came : List Bool) (link wordWrong : ℕ) (u : List Bool) : Type 0 where
+  pub slot : isSlotLink link ≡ true
+  pub size : length came ≡ burstLength link
+  pub trained : trainingPart came ≡ training
+  pub word : NearWord (wordPart came) link wordWrong
+  pub block : NearBlock (rowOf link) (blockPart came) u
