@@ -40,14 +40,22 @@ use Rattle.blocks.proofs.Sound.{length-image}
 use Rattle.blocks.proofs.WaysOfReading as r
 use Rattle.blocks.proofs.WaysOfWriting as w
 use Rattle.claims.specs.Blocks.{WroteBlock, ReadBlock, Answers, BlockClaims}
+use Rattle.claims.proofs.Numbers.{writes-block, reads-block}
+use Rattle.claims.proofs.Said.{said, told}
 
 length-datagram : (row : Row) (u : List Bool) → length (datagramOf row u) ≡ bytesHeld row
 unfolding datagramOf
 length-datagram row u = length-bytesOf (bytesHeld row) u
 
 -- ---- the counts are those of the bytes that are laid
+abbrev status : Written → ℕ
+status answer = answer .status
+
 abbrev count : Written → ℕ
 count answer = answer .count
+
+abbrev read-status : Block → ℕ
+read-status answer = answer .status
 
 abbrev read-count : Block → ℕ
 read-count answer = answer .count
@@ -74,12 +82,9 @@ read-counted link bits room = goes (r.reading-goes link bits room)
 
 -- ---- what an outcome says of the answer
 module _ (link : ℕ) (bits old new : List ℕ) (answer : Block) (wr : ReadBlock link bits old new answer) where
-  read-status : {outcome : Outcome Block} → readBlock link bits (length old) ≡ outcome → answer .status ≡ outcome .answer .status
-  read-status e = ap (λ (b : Block). b .status) (wr .answers) ∙ ap (λ (o : Outcome Block). o .answer .status) e
-
   answers-with : (datagram : List ℕ) (wrong : ℕ) → readBlock link bits (length old) ≡ reading datagram wrong → Answers datagram wrong old new answer
   answers-with datagram wrong e =
-      let same : answer ≡ reading datagram wrong .answer = wr .answers ∙ ap (λ (o : Outcome Block). o .answer) e in
+      let same = said wr e in
       let long = ap (λ (b : Block). b .count) same in
       let counted = read-counted link bits (length old) in
       record {
@@ -97,11 +102,11 @@ module _ (link : ℕ) (bits old new : List ℕ) (answer : Block) (wr : ReadBlock
     where
       goes : r.Reading link bits (length old)
           → (u : List Bool) × Near (rowOf link) (map isOne bits) u × (readBlock link bits (length old) ≡ reading (datagramOf (rowOf link) u) (differences (imageOf (rowOf link) u) (map isOne bits)))
-      goes (r.unoffered o e) = absurd (omega (arith, read-status e))
-      goes (r.no-length o s e) = absurd (omega (arith, read-status e))
-      goes (r.too-short o s h e) = absurd (omega (arith, read-status e))
-      goes (r.no-bits o s h a e) = absurd (omega (arith, read-status e))
-      goes (r.none-near o s h a f e) = absurd (omega (arith, read-status e))
+      goes (r.unoffered o e) = absurd (omega (arith, told wr read-status e))
+      goes (r.no-length o s e) = absurd (omega (arith, told wr read-status e))
+      goes (r.too-short o s h e) = absurd (omega (arith, told wr read-status e))
+      goes (r.no-bits o s h a e) = absurd (omega (arith, told wr read-status e))
+      goes (r.none-near o s h a f e) = absurd (omega (arith, told wr read-status e))
       goes (r.reads o s h a u n e) = (u, n, e)
 
   full : answer .status ≡ done → answer .count ≡ bytesHeld (rowOf link)
@@ -122,9 +127,6 @@ module _ (link : ℕ) (o : offered link ≡ true) (came : List Bool) (size : len
   refused : (answer .status ≡ noBlock) ↔ ((u : List Bool) → Near (rowOf link) came u → ⊥)
   refused = (λ e u n. omega (arith, e, answered u n .status), λ far. goes far (r.reading-goes link (map byte came) (length old)))
     where
-      status : {outcome : Outcome Block} → readBlock link (map byte came) (length old) ≡ outcome → answer .status ≡ outcome .answer .status
-      status = read-status link (map byte came) old new answer wr
-
       long : length (map byte came) ≡ imageLength (rowOf link)
       long = length-map came byte ∙ size
 
@@ -133,7 +135,7 @@ module _ (link : ℕ) (o : offered link ≡ true) (came : List Bool) (size : len
       goes far (r.no-length t s e) = absurd (s long)
       goes far (r.too-short t s h e) = absurd (omega arith)
       goes far (r.no-bits t s h a e) = absurd (true≢false (sym (all-bytes came) ∙ a))
-      goes far (r.none-near t s h a f e) = status e
+      goes far (r.none-near t s h a f e) = told wr read-status e
       goes far (r.reads t s h a u n e) = absurd (far u (rw (bits-bytes came) at n))
 
 -- ---- what was written
@@ -144,9 +146,6 @@ record WrittenImage (link : ℕ) (datagram new : List ℕ) (answer : Written) : 
   bits : take (answer .count) new ≡ map byte (imageOf (rowOf link) (blockOf (rowOf link) datagram))
 
 module _ (link : ℕ) (datagram old new : List ℕ) (answer : Written) (wr : WroteBlock link datagram old new answer) where
-  write-status : {outcome : Outcome Written} → writeBlock link datagram (length old) ≡ outcome → answer .status ≡ outcome .answer .status
-  write-status e = ap (λ (b : Written). b .status) (wr .answers) ∙ ap (λ (o : Outcome Written). o .answer .status) e
-
   image-written : offered link ≡ true → length datagram ≤ bytesHeld (rowOf link)
       → writeBlock link datagram (length old) ≡ writing (map byte (imageOf (rowOf link) (blockOf (rowOf link) datagram))) → WrittenImage link datagram new answer
   image-written o h e =
@@ -156,8 +155,7 @@ module _ (link : ℕ) (datagram old new : List ℕ) (answer : Written) (wr : Wro
         is-offered = o;
         fits = h;
         long =
-            ap (λ (b : Written). b .count) (wr .answers)
-            ∙ ap (λ (x : Outcome Written). x .answer .count) e
+            told wr count e
             ∙ length-map (imageOf row u) byte
             ∙ length-image row (good link o) u (length-block row (good link o) datagram h);
         bits = front count (writeBlock link datagram (length old)) (write-counted link datagram (length old)) wr ∙ ap (λ (x : Outcome Written). x .bytes) e;
@@ -168,9 +166,9 @@ module _ (link : ℕ) (datagram old new : List ℕ) (answer : Written) (wr : Wro
   done-writes z = goes (w.writing-goes link datagram (length old))
     where
       goes : w.Writing link datagram (length old) → WrittenImage link datagram new answer
-      goes (w.unoffered o e) = absurd (omega (arith, write-status e))
-      goes (w.too-long o h e) = absurd (omega (arith, write-status e))
-      goes (w.too-short o h s e) = absurd (omega (arith, write-status e))
+      goes (w.unoffered o e) = absurd (omega (arith, told wr status e))
+      goes (w.too-long o h e) = absurd (omega (arith, told wr status e))
+      goes (w.too-short o h s e) = absurd (omega (arith, told wr status e))
       goes (w.writes o h s e) = image-written o h e
 
 -- ---- the way back: the block's image, as it was written or with one place inverted
@@ -229,6 +227,8 @@ over-12 u v i h =
 
 pub blocks : BlockClaims
 blocks = record {
+  write-numbers = λ link datagram old new answer wr. writes-block link datagram old new answer wr (w.writing-goes link datagram (length old));
+  read-numbers = λ link bits old new answer wr. reads-block link bits old new answer wr (r.reading-goes link bits (length old));
   apart = λ link o. exactness.blocks-apart (rowOf link) (good link o);
   images-apart = λ link o. exactness.images-apart (rowOf link) (good link o);
   only-one = λ link o. exactness.only-one (rowOf link) (good link o);
@@ -242,7 +242,7 @@ blocks = record {
   full = full;
   written = λ link datagram old new answer o h s wr.
       let e = write-done link datagram (length old) o h s in
-      (write-status link datagram old new answer wr e, image-written link datagram old new answer wr o h e .long);
+      (told wr status e, image-written link datagram old new answer wr o h e .long);
   over-12 = over-12;
   write-determined = λ link datagram old old' new new' answer answer' l wr wr'.
       determined count (writeBlock link datagram (length old)) (write-counted link datagram (length old)) wr (rw (← l) at wr');

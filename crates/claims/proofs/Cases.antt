@@ -5,12 +5,12 @@ use mathlib.Core.Bool.{Bool, true}
 use mathlib.Core.List.{List, map}
 use Prim.Native.Nat.{ℕ, _<_}
 use native.Mathlib.Omega.{arith}
-use lib.Dec.{T, ltb, ltb→lt, lit<, lit≤}
+use lib.Dec.{ltb, ltb→lt, lit<, lit≤}
 use lib.ListN.{length}
 use Rattle.answers.specs.Numbers.{wrongLength, noWord}
 use Rattle.answers.specs.Outcome.{refusal}
 use Rattle.lists.specs.All.{all}
-use Rattle.lists.proofs.Line.{upto, line}
+use Rattle.lists.proofs.Line.{line}
 use Rattle.bits.specs.Bits.{byte}
 use Rattle.bits.specs.Row.{highFirst, differences}
 use Rattle.blocks.specs.Calls.{writeBlock}

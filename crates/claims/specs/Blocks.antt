@@ -6,9 +6,9 @@ use mathlib.Core.List.{List, map}
 use Prim.Native.Nat.{ℕ, _+_, _<_, _≤_}
 use lib.ListN.{length, getD, take, drop}
 use Rattle.answers.specs.declared.Written.{Written}
-use Rattle.answers.specs.Numbers.{done, noBlock}
+use Rattle.answers.specs.Numbers.{done, notOffered, wrongLength, noRoom, noBit, noBlock}
 use Rattle.answers.specs.Outcome.{Wrote}
-use Rattle.bits.specs.Bits.{isOne, byte}
+use Rattle.bits.specs.Bits.{isOne, byte, allBits}
 use Rattle.bits.specs.Row.{differences, flip}
 use Rattle.bits.specs.Datagram.{allBytes}
 use Rattle.links.specs.Rows.{offered, rowOf}
@@ -17,6 +17,7 @@ use Rattle.blocks.specs.declared.Block.{Block}
 use Rattle.blocks.specs.Block.{imageOf, datagramOf, zeroFilled}
 use Rattle.blocks.specs.Near.{Valid, Near}
 use Rattle.blocks.specs.Calls.{writeBlock, readBlock}
+use Rattle.claims.specs.Lines.{Lines, none, line, Given}
 
 -- what a call of the writer, and of the reader, leaves in a buffer and answers
 abbrev pub WroteBlock : ℕ → List ℕ → List ℕ → List ℕ → Written → Type 0
@@ -33,7 +34,32 @@ pub record Answers (datagram : List ℕ) (wrong : ℕ) (old new : List ℕ) (ans
   pub front : take (length datagram) new ≡ datagram
   pub behind : drop (length datagram) new ≡ drop (length datagram) old
 
+-- the lines of the writer: link not offered; datagram longer than the link holds; buffer too short
+abbrev pub writeLines : ℕ → List ℕ → ℕ → Lines
+writeLines link datagram room =
+    line notOffered (offered link ≡ false)
+    (line wrongLength (bytesHeld (rowOf link) < length datagram)
+    (line noRoom (room < imageLength (rowOf link))
+    none))
+
+-- the lines of a reader whose link is offered: bits not as long as the link's images; buffer too short; a byte neither 0 nor 1; no
+-- valid block differs in at most one place
+abbrev pub restLines : ℕ → List ℕ → ℕ → Lines
+restLines link bits room =
+    line wrongLength (length bits ≡ imageLength (rowOf link) → ⊥)
+    (line noRoom (room < bytesHeld (rowOf link))
+    (line noBit (allBits bits ≡ false)
+    (line noBlock ((u : List Bool) → Near (rowOf link) (map isOne bits) u → ⊥)
+    none)))
+
+-- the lines of the reader: link not offered, and those
+abbrev pub readLines : ℕ → List ℕ → ℕ → Lines
+readLines link bits room = line notOffered (offered link ≡ false) (restLines link bits room)
+
 pub record BlockClaims : Type 0 where
+  -- each refusal has its number exactly when its line is the first that applies
+  pub write-numbers : (link : ℕ) (datagram old new : List ℕ) (answer : Written) → WroteBlock link datagram old new answer → Given (writeLines link datagram (length old)) (answer .status)
+  pub read-numbers : (link : ℕ) (bits old new : List ℕ) (answer : Block) → ReadBlock link bits old new answer → Given (readLines link bits (length old)) (answer .status)
   -- two different valid blocks of a link differ in at least three places, and so do their images
   pub apart : (link : ℕ) → offered link ≡ true → (u w : List Bool) → Valid (rowOf link) u → Valid (rowOf link) w → (u ≡ w → ⊥) → 3 ≤ differences u w
   pub images-apart : (link : ℕ) → offered link ≡ true → (u w : List Bool) → Valid (rowOf link) u → Valid (rowOf link) w → (u ≡ w → ⊥)

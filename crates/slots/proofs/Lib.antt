@@ -1,7 +1,9 @@
+pub mod Answered
 pub mod Calls
 pub mod HeadLaid
+pub mod Lent
 pub mod Links
-pub mod Part
+pub mod Parts
 pub mod Reading
 pub mod Symbols
 pub mod WaysOfReading

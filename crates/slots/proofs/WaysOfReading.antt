@@ -4,17 +4,17 @@
 use mathlib.Core.Path.{_≡_, refl, sym, ap, _∙_}
 use mathlib.Core.Bool.{Bool, true, false, true≢false}
 use mathlib.Core.List.{List, map}
-use Prim.Native.Nat.{ℕ, _-_, _<_, _≤_}
+use Prim.Native.Nat.{ℕ, _<_, _≤_}
 use native.Mathlib.Omega.{arith}
 use lib.Dec.{eqb, ltb}
-use lib.ListN.{length, take, drop, length-drop}
+use lib.ListN.{length, drop, length-map, length-drop}
 use lib.Seq.{length-take-le}
 use borrow.Author.Tests.{eqb-true, eqb-false, ltb-true, ltb-false}
 use Rattle.answers.specs.Numbers.{notOffered, wrongLength, noRoom, noBit, noTraining, noWord, noBlock}
 use Rattle.answers.specs.Outcome.{Outcome}
 use Rattle.lists.proofs.All.{all-drop}
 use Rattle.lists.proofs.Parts.{drop-take}
-use Rattle.bits.specs.Bits.{isOne, allBits}
+use Rattle.bits.specs.Bits.{isOne, byte, allBits}
 use Rattle.bits.specs.Row.{differences}
 use Rattle.bits.proofs.Differences.{differences-self, differences-zero}
 use Rattle.links.specs.Rows.{rowOf}
@@ -28,9 +28,11 @@ use Rattle.words.specs.Near.{Near as NearWord}
 use Rattle.words.specs.Calls.{readWord, found, refused as refusedWord}
 use Rattle.words.proofs.Ways as w
 use Rattle.slots.specs.Burst.{training, trainingLength, headLength, headPart, trainingPart, wordPart, blockPart, isSlotLink}
+use Rattle.slots.specs.Near.{Near}
 use Rattle.slots.specs.Calls.{trainingWrong, slotWord, readHead, refused, reading, both, joined, readSlot}
 use Rattle.slots.proofs.Calls.{word-refused, word-no-slot, word-slot, head-short, head-no-bit, head-no-training, head-word, read-refused, read-joined}
 use Rattle.slots.proofs.Links.{slot-offered}
+use Rattle.slots.proofs.Parts.{part-back, rest-back}
 
 -- the head is there, made of bits, with the training
 pub record Trained (burst : List ℕ) : Type 0 where
@@ -38,10 +40,14 @@ pub record Trained (burst : List ℕ) : Type 0 where
   pub bits : allBits (headPart burst) ≡ true
   pub same : map isOne (trainingPart burst) ≡ training
 
--- and its word is near that of a slot link
-pub record Headed (burst : List ℕ) (link wrong : ℕ) : Type 0 where
+-- and its word is near that of a link, which is a slot link
+pub record Named (burst : List ℕ) (link wrong : ℕ) : Type 0 where
   pub trained : Trained burst
-  pub word : NearWord (map isOne (wordPart burst)) link wrong
+  pub near : NearWord (map isOne (wordPart burst)) link wrong
+  pub read : readWord (wordPart burst) ≡ found link wrong
+
+pub record Headed (burst : List ℕ) (link wrong : ℕ) : Type 0 where
+  pub named : Named burst link wrong
   pub slot : isSlotLink link ≡ true
 
 -- as many bits behind it as the link's images have, and room for the datagram
@@ -54,7 +60,7 @@ pub data Reading (burst : List ℕ) (room : ℕ) : Type 0 where
   no-bits : headLength ≤ length burst → allBits (headPart burst) ≡ false → readSlot burst room ≡ refused noBit → Reading burst room
   no-training : headLength ≤ length burst → allBits (headPart burst) ≡ true → (map isOne (trainingPart burst) ≡ training → ⊥) → readSlot burst room ≡ refused noTraining → Reading burst room
   no-word : Trained burst → w.NoneNear (map isOne (wordPart burst)) 64 → readSlot burst room ≡ refused noWord → Reading burst room
-  no-slot : Trained burst → (link wrong : ℕ) → NearWord (map isOne (wordPart burst)) link wrong → isSlotLink link ≡ false → readSlot burst room ≡ refused notOffered → Reading burst room
+  no-slot : (link wrong : ℕ) → Named burst link wrong → isSlotLink link ≡ false → readSlot burst room ≡ refused notOffered → Reading burst room
   no-length : (link wrong : ℕ) → Headed burst link wrong → (length (blockPart burst) ≡ imageLength (rowOf link) → ⊥) → readSlot burst room ≡ refused wrongLength → Reading burst room
   too-short : (link wrong : ℕ) → Headed burst link wrong → length (blockPart burst) ≡ imageLength (rowOf link) → room < bytesHeld (rowOf link)
       → readSlot burst room ≡ refused noRoom → Reading burst room
@@ -92,16 +98,18 @@ module _ (burst : List ℕ) (room : ℕ) where
     word-bits : allBits (wordPart burst) ≡ true
     word-bits = ap allBits (sym (drop-take trainingLength headLength burst)) ∙ all-drop _ trainingLength (headPart burst) (t .bits)
 
-    named : (link wrong : ℕ) → NearWord (map isOne (wordPart burst)) link wrong → readHead burst ≡ slotWord (found link wrong) → (slot : Bool) → isSlotLink link ≡ slot → Reading burst room
-    named link wrong n e true s =
-        rest-goes link wrong (e ∙ word-slot (found link wrong) refl s) (record { trained = t; word = n; slot = s }) (b.reading-goes link (blockPart burst) room)
-    named link wrong n e false s = no-slot t link wrong n s (head-refuses notOffered (λ z. omega (arith, z)) (e ∙ word-no-slot (found link wrong) refl s))
+    slot-goes : (link wrong : ℕ) → Named burst link wrong → (slot : Bool) → isSlotLink link ≡ slot → Reading burst room
+    slot-goes link wrong n true s =
+        let head = tried ∙ ap slotWord (n .read) ∙ word-slot (found link wrong) refl s in
+        rest-goes link wrong head (record { named = n; slot = s }) (b.reading-goes link (blockPart burst) room)
+    slot-goes link wrong n false s =
+        no-slot link wrong n s (head-refuses notOffered (λ z. omega (arith, z)) (tried ∙ ap slotWord (n .read) ∙ word-no-slot (found link wrong) refl s))
 
     word-goes : w.Reading (wordPart burst) → Reading burst room
     word-goes (w.no-length l e) = absurd (l word-long)
     word-goes (w.no-bits l a e) = absurd (true≢false (sym word-bits ∙ a))
     word-goes (w.none-near l a f e) = no-word t f (head-refuses noWord (λ z. omega (arith, z)) (tried ∙ ap slotWord e ∙ word-refused (refusedWord noWord) (λ z. omega (arith, z))))
-    word-goes (w.reads l a n wrong near e) = named n wrong near (tried ∙ ap slotWord e) (isSlotLink n) refl
+    word-goes (w.reads l a link wrong n e) = slot-goes link wrong (record { trained = t; near = n; read = e }) (isSlotLink link) refl
 
   same-training : trainingWrong burst ≡ 0 → map isOne (trainingPart burst) ≡ training
   unfolding trainingWrong
@@ -129,3 +137,16 @@ module _ (burst : List ℕ) (room : ℕ) where
           let l = ltb-false (length burst) headLength s in
           let same = eqb-true (trainingWrong burst) 0 t in
           word-goes (record { long = l; bits = a; same = same-training same }) (head-word burst l a same) (w.reading-goes (wordPart burst))
+
+-- a burst that is read is near, as demand 3 says it
+pub near-burst : (came : List Bool) (link wrong : ℕ) → Headed (map byte came) link wrong → {room : ℕ} → Sized (map byte came) room link
+    → (u : List Bool) → NearBlock (rowOf link) (map isOne (blockPart (map byte came))) u → Near came link wrong u
+near-burst came link wrong h s u n =
+    let t = h .named .trained in
+    record {
+      slot = h .slot;
+      size = omega (arith, t .long, s .size, length-map came byte, length-drop headLength (map byte came));
+      trained = sym (part-back came trainingLength 0) ∙ t .same;
+      word = rw (part-back came 32 trainingLength) at (h .named .near);
+      block = rw (rest-back came) at n;
+    }

@@ -29,7 +29,7 @@ use Rattle.slots.specs.Calls.{writeSlot}
 use Rattle.slots.proofs.Calls.{write-done}
 use Rattle.slots.proofs.HeadLaid.{length-head}
 use Rattle.slots.proofs.Links.{slot-offered}
-use Rattle.slots.proofs.Part.{part-laid}
+use Rattle.slots.proofs.Lent.{part-laid}
 
 -- the part of a buffer behind the head
 abbrev pub behindHead : List ℕ → List ℕ
@@ -49,7 +49,7 @@ module _ (link : ℕ) (o : isSlotLink link ≡ true) (datagram : List ℕ) (fits
   unfolding burstOf
   burst-parts = map-append byte (headOf link) (imageOf (rowOf link) (blockOf (rowOf link) datagram))
 
-  long-burst : length (map byte (burstOf link datagram)) ≡ burstLength link
+  pub long-burst : length (map byte (burstOf link datagram)) ≡ burstLength link
   long-burst = omega (arith, ap length burst-parts, length-append (map byte (headOf link)) image, length-head link, long-image)
 
   module _ (old mid part : List ℕ) {block : Written} (room : burstLength link ≤ length old) (head : mid ≡ over 0 (map byte (headOf link)) old)
