@@ -1,5 +1,7 @@
 pub mod Blocks
 pub mod Cases
+pub mod Demands
+pub mod Endings
 pub mod Lines
 pub mod Messages
 pub mod Numbers

@@ -1,49 +1,46 @@
--- The claims of the step through a datagram, from the laws of the crate `messages`.
+-- What is shown of the steps through a datagram, from the laws of the crate `messages`.
 -- Assumes nothing.
-use mathlib.Core.Path.{_≡_, sym, _∙_}
+use mathlib.Core.Path.{_≡_, ap, _∙_}
 use mathlib.Core.List.{List, _++_}
 use Prim.Native.Nat.{ℕ, _+_, _*_, _≤_}
 use native.Mathlib.Omega.{arith}
 use lib.ListN.{length, drop, take-append-drop}
-use Rattle.answers.specs.Numbers.{brokenMessage}
+use Rattle.answers.specs.Numbers.{done, brokenMessage}
+use Rattle.links.specs.Rows.{rows, placeIn, rowOf}
+use Rattle.links.specs.Sizes.{bytesHeld}
 use Rattle.messages.specs.declared.Step.{Step}
 use Rattle.messages.specs.Places.{byteAt, Fill, too-long}
-use Rattle.messages.specs.Step.{refused, stepMessage}
+use Rattle.messages.specs.Step as step
+use Rattle.messages.specs.Stepping.{Stepping, past, ends, spoils, breaks, finds}
 use Rattle.messages.specs.Tiling.{Tiles, bytesOf}
 use Rattle.messages.specs.Walk.{Walks}
-use Rattle.messages.proofs.Stepping.{step-goes, answer-inside, past-exact, broken-exact, spoilt-exact, finished-exact, found-exact}
-use Rattle.messages.proofs.Tiling.{walks-tile, walks-fill, tiles-count, tiles-bytes}
-use Rattle.messages.proofs.Walk.{walk-ends, walks-one}
-use Rattle.claims.specs.Messages.{MessageClaims}
+use Rattle.messages.proofs.Stepping.{step-goes, broken-exact}
+use Rattle.messages.proofs.Tiling.{walks-tile, tiles-count, tiles-bytes}
+use Rattle.claims.specs.Calls.{Stepped}
 
-lie-refused : (datagram : List ℕ) → length datagram ≡ 32 → (Fill (byteAt datagram 0) → ⊥) → byteAt datagram 1 * 256 + byteAt datagram 2 ≡ 900
-    → stepMessage datagram 0 ≡ refused brokenMessage
+pub lie-refused : (datagram : List ℕ) → length datagram ≡ bytesHeld (rowOf 5) → (Fill (byteAt datagram 0) → ⊥) → byteAt datagram 1 * 256 + byteAt datagram 2 ≡ 900
+    → step.stepMessage datagram 0 ≡ step.refused brokenMessage
+unfolding rows placeIn rowOf
 lie-refused datagram size begins lie =
-    broken-exact datagram 0 .1 (record { inside = omega arith; type = begins }, too-long (omega arith))
+    broken-exact datagram 0 .1 (record { inside = omega (arith, size); type = begins }, too-long (omega (arith, size)))
 
-bytes : (datagram : List ℕ) (found : List Step) (end : ℕ) → Tiles datagram 0 found end → bytesOf datagram found ++ drop end datagram ≡ datagram
-bytes datagram found end tiles = rw (← tiles-bytes datagram tiles) (take-append-drop end datagram)
+pub refused : (datagram : List ℕ) (position : ℕ) (answer : Step) → Stepped datagram position answer → (answer .status ≡ done → ⊥) → (answer .start ≡ 0) × (answer .length ≡ 0)
+refused datagram position answer e z = goes (step-goes datagram position)
+  where
+    zero : {number : ℕ} → step.stepMessage datagram position ≡ step.refused number → (answer .start ≡ 0) × (answer .length ≡ 0)
+    zero f = (ap (λ (a : Step). a .start) (e ∙ f), ap (λ (a : Step). a .length) (e ∙ f))
 
-count : (datagram : List ℕ) (found : List Step) (last : Step) → Walks datagram 0 found last → 7 * length found ≤ length datagram
-count datagram found last w =
+    goes : Stepping datagram position → (answer .start ≡ 0) × (answer .length ≡ 0)
+    goes (past h f) = zero f
+    goes (ends h fill f) = zero f
+    goes (spoils s f) = zero f
+    goes (breaks b h f) = zero f
+    goes (finds total whole f) = absurd (z (ap (λ (a : Step). a .status) (e ∙ f)))
+
+pub walk-bytes : (datagram : List ℕ) (found : List Step) (end : ℕ) → Tiles datagram 0 found end → bytesOf datagram found ++ drop end datagram ≡ datagram
+walk-bytes datagram found end tiles = rw (← tiles-bytes datagram tiles) (take-append-drop end datagram)
+
+pub walk-count : (datagram : List ℕ) (found : List Step) (last : Step) → Walks datagram 0 found last → 7 * length found ≤ length datagram
+walk-count datagram found last w =
     let t = walks-tile datagram (omega arith) w in
     omega (arith, tiles-count datagram (t .tiles), t .inside)
-
-pub messages : MessageClaims
-messages = record {
-  inside = λ datagram position answer e. rw e (answer-inside datagram position);
-  ways = step-goes;
-  found = found-exact;
-  ended = finished-exact;
-  past-end = past-exact;
-  broken-message = broken-exact;
-  broken-fill = spoilt-exact;
-  step-determined = λ datagram position answer answer' e f. e ∙ sym f;
-  lie-refused = lie-refused;
-  walk-ends = walk-ends;
-  walk-determined = λ datagram found found' last last' w v. walks-one datagram w v;
-  walk-tiles = λ datagram found last w. walks-tile datagram (omega arith) w;
-  walk-fill = λ datagram found w. walks-fill datagram (omega arith) w;
-  walk-bytes = bytes;
-  walk-count = count;
-}

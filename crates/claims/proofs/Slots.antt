@@ -1,4 +1,4 @@
--- The claims of slot bursts, from the laws of the crate `slots` and of the relation `Wrote`.
+-- What is shown of slot bursts, from the laws of the crate `slots`.
 -- Assumes nothing.
 use mathlib.Core.Path.{_≡_, refl, sym, ap, _∙_}
 use mathlib.Core.Logic.{_↔_}
@@ -6,29 +6,29 @@ use mathlib.Core.Bool.{Bool, true}
 use mathlib.Core.List.{List, map}
 use Prim.Native.Nat.{ℕ, _≤_}
 use native.Mathlib.Omega.{arith}
-use lib.ListN.{length, take, length-map}
+use lib.ListN.{length, take, drop, length-map}
 use Rattle.answers.specs.declared.Written.{Written}
 use Rattle.answers.specs.Numbers.{done, notOffered, wrongLength, noRoom, noBit, noTraining, noWord, noBlock}
 use Rattle.answers.specs.Outcome.{Outcome}
-use Rattle.answers.proofs.Determined.{Counted, determined, behind, front}
+use Rattle.answers.proofs.Determined as d
 use Rattle.bits.specs.Bits.{isOne, byte}
 use Rattle.bits.specs.Row.{differences}
 use Rattle.bits.specs.Datagram.{allBytes}
-use Rattle.bits.proofs.Bits.{bits-bytes}
 use Rattle.bits.proofs.Differences.{differences-self}
 use Rattle.links.specs.Rows.{rowOf}
 use Rattle.links.specs.Sizes.{bytesHeld}
 use Rattle.links.proofs.Good.{good}
 use Rattle.blocks.specs.Block.{blockOf, imageOf, datagramOf, zeroFilled}
 use Rattle.blocks.specs.Near.{Near as NearBlock}
+use Rattle.blocks.proofs.Accepting.{length-datagram}
 use Rattle.blocks.proofs.Blocks.{block-valid, datagram-in-block}
 use Rattle.blocks.proofs.Exact as blocks
 use Rattle.words.specs.Word.{wordBits}
-use Rattle.words.proofs.Apart.{only-one}
+use Rattle.words.proofs.Apart as words
 use Rattle.slots.specs.declared.Slot.{Slot}
 use Rattle.slots.specs.Burst.{trainingPart, wordPart, blockPart, isSlotLink, burstLength, burstOf}
 use Rattle.slots.specs.Near.{Near}
-use Rattle.slots.specs.Calls.{writeSlot, readSlot, refused, reading}
+use Rattle.slots.specs.Calls.{readSlot, refused as refusal, reading}
 use Rattle.slots.proofs.Answered.{burst-answered}
 use Rattle.slots.proofs.Calls.{write-done}
 use Rattle.slots.proofs.Links.{slot-offered, slot-has-word}
@@ -36,16 +36,9 @@ use Rattle.slots.proofs.Parts.{training-of-burst, word-of-burst, block-of-burst
 use Rattle.slots.proofs.WaysOfReading as r
 use Rattle.slots.proofs.WaysOfWriting as w
 use Rattle.slots.proofs.Writing.{long-burst}
-use Rattle.claims.specs.Slots.{WroteSlot, ReadSlot, Answers, OnlyNumber, sent, SlotClaims}
-use Rattle.claims.proofs.Numbers.{writes-slot, reads-slot}
+use Rattle.claims.specs.Calls.{WroteSlot, ReadSlot, SlotAnswer}
+use Rattle.claims.proofs.Endings.{status, count, slot-ends, front}
 use Rattle.claims.proofs.Said.{said, told, held}
-
--- ---- the fields of the answers
-abbrev status : Written → ℕ
-status answer = answer .status
-
-abbrev count : Written → ℕ
-count answer = answer .count
 
 abbrev read-status : Slot → ℕ
 read-status answer = answer .status
@@ -55,7 +48,7 @@ read-count answer = answer .count
 
 -- ---- reading ends in two ways: a refusal, or a datagram
 data Ending (burst : List ℕ) (room : ℕ) : Type 0 where
-  refuses : (number : ℕ) → (number ≡ done → ⊥) → readSlot burst room ≡ refused number → Ending burst room
+  refuses : (number : ℕ) → (number ≡ done → ⊥) → readSlot burst room ≡ refusal number → Ending burst room
   answers : (link wrong : ℕ) → r.Headed burst link wrong → r.Sized burst room link → (u : List Bool) → NearBlock (rowOf link) (map isOne (blockPart burst)) u
       → readSlot burst room ≡ reading (datagramOf (rowOf link) u) (differences (imageOf (rowOf link) u) (map isOne (blockPart burst))) link wrong → Ending burst room
 
@@ -74,57 +67,59 @@ ending (r.reads link wrong h s a u n e) = answers link wrong h s u n e
 ends : (burst : List ℕ) (room : ℕ) → Ending burst room
 ends burst room = ending (r.reading-goes burst room)
 
--- ---- the counts are those of the bytes that are laid
-write-counted : (link : ℕ) (datagram : List ℕ) (room : ℕ) → Counted count (writeSlot link datagram room)
-write-counted link datagram room = goes (w.writing-goes link datagram room)
-  where
-    goes : w.Writing link datagram room → Counted count (writeSlot link datagram room)
-    goes (w.no-slot o e) = rw e
-    goes (w.too-long o h e) = rw e
-    goes (w.too-short o h s e) = rw e
-    goes (w.writes o h s e) = rw e
-
-read-counted : (burst : List ℕ) (room : ℕ) → Counted read-count (readSlot burst room)
+-- ---- the count is that of the bytes that are laid
+read-counted : (burst : List ℕ) (room : ℕ) → d.Counted read-count (readSlot burst room)
 read-counted burst room = goes (ends burst room)
   where
-    goes : Ending burst room → Counted read-count (readSlot burst room)
+    goes : Ending burst room → d.Counted read-count (readSlot burst room)
     goes (refuses number h e) = rw e
     goes (answers link wrong h s u n e) = rw e
 
 -- ---- what an outcome says of the answer
 module _ (burst old new : List ℕ) (answer : Slot) (wr : ReadSlot burst old new answer) where
-  refusal : (answer .status ≡ done → ⊥) → OnlyNumber answer × (new ≡ old)
-  refusal z = goes (ends burst (length old))
+  pub behind : drop (answer .count) new ≡ drop (answer .count) old
+  behind = d.behind read-count (readSlot burst (length old)) (read-counted burst (length old)) wr
+
+  pub refused : (answer .status ≡ done → ⊥) → (answer .count ≡ 0) × (answer .wrong ≡ 0) × (answer .link ≡ 0) × (answer .«word_wrong» ≡ 0) × (new ≡ old)
+  refused z = goes (ends burst (length old))
     where
-      goes : Ending burst (length old) → OnlyNumber answer × (new ≡ old)
+      goes : Ending burst (length old) → (answer .count ≡ 0) × (answer .wrong ≡ 0) × (answer .link ≡ 0) × (answer .«word_wrong» ≡ 0) × (new ≡ old)
       goes (refuses number h e) =
-          let same = said wr e in
-          (record { count = ap read-count same; wrong = ap (λ (a : Slot). a .wrong) same; link = ap (λ (a : Slot). a .link) same; word-wrong = ap (λ (a : Slot). a .«word_wrong») same }, held wr e)
+          (told wr read-count e, told wr (λ (a : Slot). a .wrong) e, told wr (λ (a : Slot). a .link) e, told wr (λ (a : Slot). a .«word_wrong») e, held wr e)
       goes (answers link wrong h s u n e) = absurd (z (told wr read-status e))
 
+  pub full : answer .status ≡ done → answer .count ≡ bytesHeld (rowOf (answer .link))
+  full z = goes (ends burst (length old))
+    where
+      goes : Ending burst (length old) → answer .count ≡ bytesHeld (rowOf (answer .link))
+      goes (refuses number h e) = absurd (h (sym (told wr read-status e) ∙ z))
+      goes (answers link wrong h s u n e) =
+          told wr read-count e ∙ length-datagram (rowOf link) u ∙ ap (λ (l : ℕ). bytesHeld (rowOf l)) (sym (told wr (λ (a : Slot). a .link) e))
+
   answers-with : (datagram : List ℕ) (wrong link wordWrong : ℕ) → readSlot burst (length old) ≡ reading datagram wrong link wordWrong
-      → Answers datagram wrong link wordWrong old new answer
+      → SlotAnswer datagram wrong link wordWrong old new answer
   answers-with datagram wrong link wordWrong e =
       let same = said wr e in
-      let long = ap read-count same in
-      let counted = read-counted burst (length old) in
+      let bytes = d.front read-count (readSlot burst (length old)) (read-counted burst (length old)) wr ∙ ap (λ (o : Outcome Slot). o .bytes) e in
       record {
         status = ap read-status same;
-        count = long;
+        laid = record { full = ap read-count same; front = bytes; behind = behind };
         wrongs = ap (λ (a : Slot). a .wrong) same;
         links = ap (λ (a : Slot). a .link) same;
         word-wrongs = ap (λ (a : Slot). a .«word_wrong») same;
-        front = rw long at (front read-count (readSlot burst (length old)) counted wr) ∙ ap (λ (o : Outcome Slot). o .bytes) e;
-        behind = rw long at (behind read-count (readSlot burst (length old)) counted wr);
       }
+
+pub determined : (burst old old' new new' : List ℕ) (answer answer' : Slot) → length old ≡ length old' → ReadSlot burst old new answer → ReadSlot burst old' new' answer'
+    → (answer ≡ answer') × (take (answer .count) new ≡ take (answer .count) new')
+determined burst old old' new new' answer answer' l wr wr' = d.determined read-count (readSlot burst (length old)) (read-counted burst (length old)) wr (rw (← l) at wr')
 
 -- ---- reading is exact
 module _ (came : List Bool) (old new : List ℕ) (answer : Slot) (wr : ReadSlot (map byte came) old new answer) where
-  answered : (link wordWrong : ℕ) (u : List Bool) → Near came link wordWrong u → bytesHeld (rowOf link) ≤ length old
-      → Answers (datagramOf (rowOf link) u) (differences (imageOf (rowOf link) u) (blockPart came)) link wordWrong old new answer
+  pub answered : (link wordWrong : ℕ) (u : List Bool) → Near came link wordWrong u → bytesHeld (rowOf link) ≤ length old
+      → SlotAnswer (datagramOf (rowOf link) u) (differences (imageOf (rowOf link) u) (blockPart came)) link wordWrong old new answer
   answered link wordWrong u n room = answers-with (map byte came) old new answer wr _ _ _ _ (burst-answered came link wordWrong u n (length old) room)
 
-  exact : (answer .status ≡ done) ↔ ((link : ℕ) × (wordWrong : ℕ) × (u : List Bool) × Near came link wordWrong u × (bytesHeld (rowOf link) ≤ length old))
+  pub exact : (answer .status ≡ done) ↔ ((link : ℕ) × (wordWrong : ℕ) × (u : List Bool) × Near came link wordWrong u × (bytesHeld (rowOf link) ≤ length old))
   exact = (λ z. found z (ends (map byte came) (length old)), λ some. answered (some .0) (some .1) (some .2) (some .3) (some .4) .status)
     where
       found : answer .status ≡ done → Ending (map byte came) (length old)
@@ -132,11 +127,11 @@ module _ (came : List Bool) (old new : List ℕ) (answer : Slot) (wr : ReadSlot 
       found z (refuses number h e) = absurd (h (sym (told wr read-status e) ∙ z))
       found z (answers link wrong h s u n e) = (link, wrong, u, r.near-burst came link wrong h s u n, s .fits)
 
-once : (came : List Bool) (link link' wrong wrong' : ℕ) (u u' : List Bool) → Near came link wrong u → Near came link' wrong' u' → (link ≡ link') × (wrong ≡ wrong') × (u ≡ u')
-once came link link' wrong wrong' u u' n n' =
+pub only-one : (came : List Bool) (link link' wrong wrong' : ℕ) (u u' : List Bool) → Near came link wrong u → Near came link' wrong' u' → (link ≡ link') × (wrong ≡ wrong') × (u ≡ u')
+only-one came link link' wrong wrong' u u' n n' =
     let near = n .word in
     let near' = n' .word in
-    let same : link ≡ link' = only-one (wordPart came) link link' (near .known) (near' .known) (omega (arith, near .count, near .within)) (omega (arith, near' .count, near' .within)) in
+    let same : link ≡ link' = words.only-one (wordPart came) link link' (near .known) (near' .known) (omega (arith, near .count, near .within)) (omega (arith, near' .count, near' .within)) in
     let row = ap rowOf same in (
       same,
       sym (near .count) ∙ ap (λ (l : ℕ). differences (wordBits l) (wordPart came)) same ∙ near' .count,
@@ -158,7 +153,7 @@ module _ (link : ℕ) (datagram old new : List ℕ) (answer : Written) (wr : Wro
         slot = o;
         fits = h;
         long = told wr count e ∙ long-burst link o datagram h;
-        bits = front count (writeSlot link datagram (length old)) (write-counted link datagram (length old)) wr ∙ ap (λ (x : Outcome Written). x .bytes) e;
+        bits = front (slot-ends link datagram (length old)) wr ∙ ap (λ (x : Outcome Written). x .bytes) e;
       }
 
   -- an answer 0 is given only where the burst is written
@@ -171,62 +166,39 @@ module _ (link : ℕ) (datagram old new : List ℕ) (answer : Written) (wr : Wro
       goes (w.too-short o h s e) = absurd (omega (arith, told wr status e))
       goes (w.writes o h s e) = burst-written o h s
 
+  pub written : isSlotLink link ≡ true → length datagram ≤ bytesHeld (rowOf link) → burstLength link ≤ length old
+      → (answer .status ≡ done) × (answer .count ≡ burstLength link) × (take (answer .count) new ≡ map byte (burstOf link datagram))
+  written o h room =
+      let i = burst-written o h room in
+      (told wr status (write-done link datagram (length old) o h room), i .long, i .bits)
+
 -- ---- the way back: the burst with up to seven places of its word and at most one of its block wrong
-module _ (link : ℕ) (datagram new : List ℕ) (answer : Written) (i : WrittenBurst link datagram new answer) where
-  sent-is : sent answer new ≡ burstOf link datagram
-  sent-is = ap (map isOne) (i .bits) ∙ bits-bytes (burstOf link datagram)
+module _ (link : ℕ) (datagram old new : List ℕ) (answer : Written) (bytes : allBytes datagram ≡ true) (w : WroteSlot link datagram old new answer) (z : answer .status ≡ done) where
+  i : WrittenBurst link datagram new answer
+  i = done-writes link datagram old new answer w z
 
-  module _ (bytes : allBytes datagram ≡ true) (old' new' : List ℕ) (answer' : Slot) (room : bytesHeld (rowOf link) ≤ length old') where
-    comes-back : (came : List Bool) → length came ≡ answer .count → trainingPart came ≡ trainingPart (burstOf link datagram)
-        → differences (wordPart (burstOf link datagram)) (wordPart came) ≤ 7 → differences (blockPart (burstOf link datagram)) (blockPart came) ≤ 1
-        → ReadSlot (map byte came) old' new' answer'
-        → Answers (zeroFilled (rowOf link) datagram) (differences (blockPart (burstOf link datagram)) (blockPart came)) link (differences (wordPart (burstOf link datagram)) (wordPart came)) old' new' answer'
-    comes-back came size trained word block wr =
-        let row-good = good link (slot-offered link (i .slot)) in
-        let u = blockOf (rowOf link) datagram in
-        let near : Near came link (differences (wordBits link) (wordPart came)) u = record {
-          slot = i .slot;
-          size = size ∙ i .long;
-          trained = trained ∙ training-of-burst link datagram;
-          word = record { known = slot-has-word link (i .slot); count = refl; within = rw (word-of-burst link datagram) at word };
-          block = record { right = block-valid (rowOf link) row-good datagram (i .fits); within = rw (block-of-burst link datagram) at block };
-        } in
-        rw (word-of-burst link datagram, block-of-burst link datagram, ← datagram-in-block (rowOf link) row-good datagram (i .fits) bytes)
-        (answered came old' new' answer' wr link (differences (wordBits link) (wordPart came)) u near room)
+  pub mended : (came : List Bool) → length came ≡ answer .count → trainingPart came ≡ trainingPart (burstOf link datagram)
+      → differences (wordPart (burstOf link datagram)) (wordPart came) ≤ 7 → differences (blockPart (burstOf link datagram)) (blockPart came) ≤ 1
+      → (old' new' : List ℕ) (answer' : Slot) → bytesHeld (rowOf link) ≤ length old' → ReadSlot (map byte came) old' new' answer'
+      → SlotAnswer (zeroFilled (rowOf link) datagram) (differences (blockPart (burstOf link datagram)) (blockPart came)) link (differences (wordPart (burstOf link datagram)) (wordPart came)) old' new' answer'
+  mended came size trained word block old' new' answer' room wr =
+      let row-good = good link (slot-offered link (i .slot)) in
+      let u = blockOf (rowOf link) datagram in
+      let near : Near came link (differences (wordBits link) (wordPart came)) u = record {
+        slot = i .slot;
+        size = size ∙ i .long;
+        trained = trained ∙ training-of-burst link datagram;
+        word = record { known = slot-has-word link (i .slot); count = refl; within = rw (word-of-burst link datagram) at word };
+        block = record { right = block-valid (rowOf link) row-good datagram (i .fits); within = rw (block-of-burst link datagram) at block };
+      } in
+      rw (word-of-burst link datagram, block-of-burst link datagram, ← datagram-in-block (rowOf link) row-good datagram (i .fits) bytes)
+      (answered came old' new' answer' wr link (differences (wordBits link) (wordPart came)) u near room)
 
-    back : ReadSlot (take (answer .count) new) old' new' answer' → Answers (zeroFilled (rowOf link) datagram) 0 link 0 old' new' answer'
-    back wr =
-        let burst = burstOf link datagram in
-        let word = differences-self (wordPart burst) in
-        let block = differences-self (blockPart burst) in
-        rw (word, block) at
-        (comes-back burst (sym (length-map burst byte) ∙ long-burst link (i .slot) datagram (i .fits) ∙ sym (i .long)) refl (omega (arith, word)) (omega (arith, block)) (rw (i .bits) at wr))
-
-    mended : (came : List Bool) → length came ≡ answer .count → trainingPart came ≡ trainingPart (sent answer new)
-        → differences (wordPart (sent answer new)) (wordPart came) ≤ 7 → differences (blockPart (sent answer new)) (blockPart came) ≤ 1
-        → ReadSlot (map byte came) old' new' answer'
-        → Answers (zeroFilled (rowOf link) datagram) (differences (blockPart (sent answer new)) (blockPart came)) link (differences (wordPart (sent answer new)) (wordPart came)) old' new' answer'
-    mended = rw sent-is comes-back
-
-pub slots : SlotClaims
-slots = record {
-  write-numbers = λ link datagram old new answer wr. writes-slot link datagram old new answer wr (w.writing-goes link datagram (length old));
-  read-numbers = λ burst old new answer wr. reads-slot burst old new answer wr (r.reading-goes burst (length old));
-  refusal = refusal;
-  exact = exact;
-  answered = λ came link wordWrong u n old new answer room wr. answered came old new answer wr link wordWrong u n room;
-  only-one = once;
-  written = λ link datagram old new answer o h room wr.
-      let i = burst-written link datagram old new answer wr o h room in
-      (told wr status (write-done link datagram (length old) o h room), i .long, sent-is link datagram new answer i);
-  back = λ link datagram old new written bytes wr z old' new' answer room.
-      back link datagram new written (done-writes link datagram old new written wr z) bytes old' new' answer room;
-  mended = λ link datagram old new written bytes wr z came size trained word block old' new' answer room.
-      mended link datagram new written (done-writes link datagram old new written wr z) bytes old' new' answer room came size trained word block;
-  write-determined = λ link datagram old old' new new' answer answer' l wr wr'.
-      determined count (writeSlot link datagram (length old)) (write-counted link datagram (length old)) wr (rw (← l) at wr');
-  read-determined = λ burst old old' new new' answer answer' l wr wr'.
-      determined read-count (readSlot burst (length old)) (read-counted burst (length old)) wr (rw (← l) at wr');
-  write-behind = λ link datagram old new answer wr. behind count (writeSlot link datagram (length old)) (write-counted link datagram (length old)) wr;
-  read-behind = λ burst old new answer wr. behind read-count (readSlot burst (length old)) (read-counted burst (length old)) wr;
-}
+  pub back : (old' new' : List ℕ) (answer' : Slot) → bytesHeld (rowOf link) ≤ length old' → ReadSlot (take (answer .count) new) old' new' answer'
+      → SlotAnswer (zeroFilled (rowOf link) datagram) 0 link 0 old' new' answer'
+  back old' new' answer' room wr =
+      let burst = burstOf link datagram in
+      let word = differences-self (wordPart burst) in
+      let block = differences-self (blockPart burst) in
+      let size = sym (length-map burst byte) ∙ long-burst link (i .slot) datagram (i .fits) ∙ sym (i .long) in
+      rw (word, block) at (mended burst size refl (omega (arith, word)) (omega (arith, block)) old' new' answer' room (rw (i .bits) at wr))

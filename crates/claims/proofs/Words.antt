@@ -1,63 +1,58 @@
--- The claims of link words, from the laws of the crate `words` and of the relation `Wrote`.
+-- What is shown of link words, from the laws of the crate `words`.
 -- Assumes nothing.
-use mathlib.Core.Path.{_≡_, sym, ap, _∙_}
+use mathlib.Core.Path.{_≡_, refl, ap, _∙_}
+use mathlib.Core.Bool.{Bool}
 use mathlib.Core.List.{List, map}
-use Prim.Native.Nat.{ℕ}
+use Prim.Native.Nat.{ℕ, _<_, _≤_}
 use native.Mathlib.Omega.{arith}
-use lib.ListN.{length, take, drop}
-use lib.Seq.{take-at}
+use lib.ListN.{length, take}
 use Rattle.answers.specs.declared.Written.{Written}
 use Rattle.answers.specs.Numbers.{done}
-use Rattle.answers.proofs.Determined.{Counted, determined, behind}
+use Rattle.answers.specs.Outcome.{Outcome}
 use Rattle.bits.specs.Bits.{byte}
+use Rattle.bits.specs.Row.{differences}
+use Rattle.words.specs.declared.Word.{Word}
 use Rattle.words.specs.Word.{wordBits}
-use Rattle.words.specs.Calls.{writeWord, readWord, found}
-use Rattle.words.proofs.Apart.{apart, only-one}
+use Rattle.words.specs.Near.{Near}
+use Rattle.words.specs.Calls.{readWord, found}
+use Rattle.words.proofs.Apart as apart
 use Rattle.words.proofs.Calls.{write-done, length-word}
-use Rattle.words.proofs.Ways.{Writing, too-high, too-short, writes, writing-goes, reading-goes}
-use Rattle.words.proofs.Exact.{near-found, found-near, refused-far, far-refused, word-back}
-use Rattle.claims.specs.Words.{WroteWord, WordClaims}
-use Rattle.claims.proofs.Numbers.{writes-word, reads-word}
-use Rattle.claims.proofs.Said.{told, held}
+use Rattle.words.proofs.Exact.{near-found, word-back}
+use Rattle.words.proofs.Ways as w
+use Rattle.claims.specs.Calls.{WroteWord, ReadWord}
+use Rattle.claims.proofs.Endings.{status, count, word-ends, front}
+use Rattle.claims.proofs.Said.{told}
 
-abbrev status : Written → ℕ
-status answer = answer .status
+module _ (n : ℕ) (old new : List ℕ) (answer : Written) (wr : WroteWord n old new answer) where
+  pub written : n ≤ 63 → 32 ≤ length old → (answer .status ≡ done) × (answer .count ≡ 32) × (take 32 new ≡ map byte (wordBits n))
+  written h room =
+      let e = write-done n (length old) h room in
+      let long = told wr count e ∙ length-word n in
+      (told wr status e, long, rw long at (front (word-ends n (length old)) wr ∙ ap (λ (o : Outcome Written). o .bytes) e))
 
-abbrev count : Written → ℕ
-count answer = answer .count
+  -- an answer 0 is given only where the word is written
+  pub back : answer .status ≡ done → readWord (take (answer .count) new) ≡ found n 0
+  back z = goes (w.writing-goes n (length old))
+    where
+      goes : w.Writing n (length old) → readWord (take (answer .count) new) ≡ found n 0
+      goes (w.too-high h e) = absurd (omega (arith, told wr status e))
+      goes (w.too-short h f e) = absurd (omega (arith, told wr status e))
+      goes (w.writes h f e) = let all = written h f in rw (all .1, all .2) (word-back n (omega arith))
 
-counted : (n room : ℕ) → Counted count (writeWord n room)
-counted n room = goes (writing-goes n room)
+pub refused : (row : List ℕ) (answer : Word) → ReadWord row answer → (answer .status ≡ done → ⊥) → (answer .number ≡ 0) × (answer .wrong ≡ 0)
+refused row answer e z = goes (w.reading-goes row)
   where
-    goes : Writing n room → Counted count (writeWord n room)
-    goes (too-high h e) = rw e
-    goes (too-short h s e) = rw e
-    goes (writes h s e) = rw e
+    zero : {number : ℕ} → readWord row ≡ record { status = number; number = 0; wrong = 0 } → (answer .number ≡ 0) × (answer .wrong ≡ 0)
+    zero f = (ap (λ (a : Word). a .number) (e ∙ f), ap (λ (a : Word). a .wrong) (e ∙ f))
 
--- an answer 0 is given only where the word is written
-back : (n : ℕ) (old new : List ℕ) (answer : Written) → WroteWord n old new answer → answer .status ≡ done → readWord (take 32 new) ≡ found n 0
-back n old new answer w z = goes (writing-goes n (length old))
-  where
-    goes : Writing n (length old) → readWord (take 32 new) ≡ found n 0
-    goes (too-high h e) = absurd (omega (arith, told w status e))
-    goes (too-short h s e) = absurd (omega (arith, told w status e))
-    goes (writes h s e) =
-        let bytes = map byte (wordBits n) in
-        ap (λ (l : List ℕ). readWord (take 32 l)) (held w e)
-        ∙ ap readWord (take-at bytes (drop (length bytes) old) 32 (length-word n))
-        ∙ word-back n (omega arith)
+    goes : w.Reading row → (answer .number ≡ 0) × (answer .wrong ≡ 0)
+    goes (w.no-length l f) = zero f
+    goes (w.no-bits l a f) = zero f
+    goes (w.none-near l a none f) = zero f
+    goes (w.reads l a n wrong near f) = absurd (z (ap (λ (a : Word). a .status) (e ∙ f)))
 
-pub words : WordClaims
-words = record {
-  write-numbers = λ n old new answer w. writes-word n old new answer w (writing-goes n (length old));
-  read-numbers = λ row answer e. reads-word row answer e (reading-goes row);
-  apart = apart;
-  exact = λ row size n wrong. (found-near row size n wrong, near-found row size n wrong);
-  only-one = λ row m n a b p q. only-one row m n (p .known) (q .known) (omega (arith, p .count, p .within)) (omega (arith, q .count, q .within));
-  none-near = λ row size. (refused-far row size, far-refused row size);
-  back = back;
-  written = λ n old new answer h l w. told w status (write-done n (length old) h l);
-  write-determined = λ n old old' new new' answer answer' l w w'. determined count (writeWord n (length old)) (counted n (length old)) w (rw (← l) at w');
-  write-behind = λ n old new answer w. behind count (writeWord n (length old)) (counted n (length old)) w;
-  read-determined = λ row answer answer' e f. e ∙ sym f;
-}
+pub mended : (n : ℕ) → n < 64 → (row : List Bool) → length row ≡ 32 → differences (wordBits n) row ≤ 7 → readWord (map byte row) ≡ found n (differences (wordBits n) row)
+mended n h row size within = near-found row size n (differences (wordBits n) row) (record { known = h; count = refl; within = within })
+
+pub only-one : (row : List Bool) (m n a b : ℕ) → Near row m a → Near row n b → m ≡ n
+only-one row m n a b p q = apart.only-one row m n (p .known) (q .known) (omega (arith, p .count, p .within)) (omega (arith, q .count, q .within))

@@ -1,6 +1,4 @@
-pub mod Blocks
+pub mod Calls
 pub mod Cases
+pub mod Demands
 pub mod Lines
-pub mod Messages
-pub mod Slots
-pub mod Words

@@ -1,0 +1,106 @@
+-- The three demands are met.
+-- Assumes nothing.
+use mathlib.Core.Path.{refl, sym, _∙_}
+use native.Mathlib.Omega.{arith}
+use lib.ListN.{length}
+use Rattle.links.specs.Rows.{rows, rowOf}
+use Rattle.links.proofs.Good.{good}
+use Rattle.turbo.proofs.Permutation.{position-in-range, position-injective, position-onto}
+use Rattle.words.proofs.Apart.{apart}
+use Rattle.words.proofs.Exact.{near-found, found-near, refused-far, far-refused}
+use Rattle.words.proofs.Ways as w
+use Rattle.blocks.proofs.Exact as exact
+use Rattle.blocks.proofs.WaysOfReading as rb
+use Rattle.blocks.proofs.WaysOfWriting as wb
+use Rattle.slots.proofs.WaysOfReading as rs
+use Rattle.slots.proofs.WaysOfWriting as ws
+use Rattle.messages.proofs.Stepping.{step-goes, answer-inside, finished-exact, found-exact}
+use Rattle.messages.proofs.Tiling.{walks-tile, walks-fill}
+use Rattle.messages.proofs.Walk.{walk-ends, walks-one}
+use Rattle.claims.specs.Demands.{Demand1, Demand2, Demand3}
+use Rattle.claims.proofs.Blocks as blocks
+use Rattle.claims.proofs.Endings.{word-ends, block-ends, slot-ends, refused, behind, determined}
+use Rattle.claims.proofs.Lines.{one-number}
+use Rattle.claims.proofs.Messages as messages
+use Rattle.claims.proofs.Numbers.{writes-word, reads-word, writes-block, reads-block, writes-slot, reads-slot, steps}
+use Rattle.claims.proofs.Slots as slots
+use Rattle.claims.proofs.Words as words
+
+pub demand1 : Demand1
+demand1 = record {
+  one-number = one-number;
+  write-word-number = λ n old new answer wr. writes-word n old new answer wr (w.writing-goes n (length old));
+  read-word-number = λ row answer e. reads-word row answer e (w.reading-goes row);
+  write-block-number = λ link datagram old new answer wr. writes-block link datagram old new answer wr (wb.writing-goes link datagram (length old));
+  read-block-number = λ link bits old new answer wr. reads-block link bits old new answer wr (rb.reading-goes link bits (length old));
+  write-slot-number = λ link datagram old new answer wr. writes-slot link datagram old new answer wr (ws.writing-goes link datagram (length old));
+  read-slot-number = λ burst old new answer wr. reads-slot burst old new answer wr (rs.reading-goes burst (length old));
+  step-number = λ datagram position answer e. steps datagram position answer e (step-goes datagram position);
+  write-word-refused = λ n old new answer wr. refused (word-ends n (length old)) wr;
+  read-word-refused = words.refused;
+  write-block-refused = λ link datagram old new answer wr. refused (block-ends link datagram (length old)) wr;
+  read-block-refused = blocks.refused;
+  write-slot-refused = λ link datagram old new answer wr. refused (slot-ends link datagram (length old)) wr;
+  read-slot-refused = slots.refused;
+  step-refused = messages.refused;
+  write-word-behind = λ n old new answer wr. behind (word-ends n (length old)) wr;
+  write-block-behind = λ link datagram old new answer wr. behind (block-ends link datagram (length old)) wr;
+  read-block-behind = blocks.behind;
+  write-slot-behind = λ link datagram old new answer wr. behind (slot-ends link datagram (length old)) wr;
+  read-slot-behind = slots.behind;
+  write-word-determined = λ n old old' new new' answer answer' l wr wr'. determined (word-ends n (length old)) wr (rw (← l) at wr');
+  read-word-determined = λ row answer answer' e f. e ∙ sym f;
+  write-block-determined = λ link datagram old old' new new' answer answer' l wr wr'. determined (block-ends link datagram (length old)) wr (rw (← l) at wr');
+  read-block-determined = blocks.determined;
+  write-slot-determined = λ link datagram old old' new new' answer answer' l wr wr'. determined (slot-ends link datagram (length old)) wr (rw (← l) at wr');
+  read-slot-determined = slots.determined;
+  step-determined = λ datagram position answer answer' e f. e ∙ sym f;
+}
+
+pub demand2 : Demand2
+unfolding rows
+demand2 = record {
+  links = refl;
+  words-written = λ n old new answer h room wr. words.written n old new answer wr h room;
+  blocks-written = λ link datagram old new answer o h room wr. blocks.written link datagram old new answer wr o h room;
+  slots-written = λ link datagram old new answer o h room wr. slots.written link datagram old new answer wr o h room;
+  interleaver-within = λ link o. position-in-range (rowOf link) (good link o);
+  interleaver-once = λ link o. position-injective (rowOf link) (good link o);
+  interleaver-onto = λ link o. position-onto (rowOf link) (good link o);
+  words-back = words.back;
+  blocks-back = blocks.back;
+  slots-back = slots.back;
+  blocks-full = blocks.full;
+  slots-full = slots.full;
+  step-inside = λ datagram position answer e. rw e (answer-inside datagram position);
+  message-found = found-exact;
+  step-finished = finished-exact;
+  lie-refused = messages.lie-refused;
+  walk-ends = walk-ends;
+  walk-determined = λ datagram found found' last last' w v. walks-one datagram w v;
+  walk-tiles = λ datagram found last w. walks-tile datagram (omega arith) w;
+  walk-count = messages.walk-count;
+  walk-fill = λ datagram found w. walks-fill datagram (omega arith) w;
+  walk-bytes = messages.walk-bytes;
+}
+
+pub demand3 : Demand3
+demand3 = record {
+  block-mended = λ link datagram old new written bytes wr z place h old' new' answer room. blocks.mended link datagram old new written bytes wr z old' new' answer room place h;
+  word-mended = words.mended;
+  slot-mended = slots.mended;
+  words-apart = apart;
+  blocks-apart = λ link o. exact.blocks-apart (rowOf link) (good link o);
+  images-apart = λ link o. exact.images-apart (rowOf link) (good link o);
+  block-exact = blocks.exact;
+  block-none = blocks.none-near;
+  block-only-one = λ link o. exact.only-one (rowOf link) (good link o);
+  block-answered = blocks.answered;
+  over-12 = blocks.over-12;
+  word-exact = λ row size n wrong. (found-near row size n wrong, near-found row size n wrong);
+  word-none = λ row size. (refused-far row size, far-refused row size);
+  word-only-one = words.only-one;
+  slot-exact = slots.exact;
+  slot-only-one = slots.only-one;
+  slot-answered = λ came link wordWrong u n old new answer room wr. slots.answered came old new answer wr link wordWrong u n room;
+}

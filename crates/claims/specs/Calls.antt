@@ -1,0 +1,148 @@
+-- The public calls as the relations and equations that their contracts name, and for each call the lines of document 01's table of
+-- numbers in the order in which it tests them.
+use mathlib.Core.Path.{_≡_}
+use mathlib.Core.Bool.{Bool, false}
+use mathlib.Core.List.{List, map}
+use Prim.Native.Nat.{ℕ, _<_}
+use lib.ListN.{length, take, drop}
+use Rattle.answers.specs.declared.Written.{Written}
+use Rattle.answers.specs.Numbers.{done, notOffered, wrongLength, noRoom, noBit, noTraining, noWord, noBlock, pastEnd, brokenMessage, brokenFill}
+use Rattle.answers.specs.Outcome.{Wrote}
+use Rattle.bits.specs.Bits.{isOne, allBits}
+use Rattle.bits.specs.Row.{differences}
+use Rattle.links.specs.Rows.{offered, rowOf}
+use Rattle.links.specs.Sizes.{bytesHeld, imageLength}
+use Rattle.words.specs.declared.Word.{Word}
+use Rattle.words.specs.Word.{wordBits}
+use Rattle.words.specs.Calls.{writeWord, readWord}
+use Rattle.blocks.specs.declared.Block.{Block}
+use Rattle.blocks.specs.Near.{Near}
+use Rattle.blocks.specs.Calls.{writeBlock, readBlock}
+use Rattle.slots.specs.declared.Slot.{Slot}
+use Rattle.slots.specs.Burst.{training, headLength, headPart, trainingPart, wordPart, blockPart, isSlotLink, burstLength}
+use Rattle.slots.specs.Calls.{writeSlot, readSlot}
+use Rattle.messages.specs.declared.Step.{Step}
+use Rattle.messages.specs.Places.{Spoilt, Begins, Broken}
+use Rattle.messages.specs.Step.{stepMessage}
+use Rattle.claims.specs.Lines.{Lines, none, line}
+
+-- ---- what a call leaves in the lent buffer, which held `old`, and answers
+abbrev pub WroteWord : ℕ → List ℕ → List ℕ → Written → Type 0
+WroteWord n old new answer = Wrote (writeWord n (length old)) old new answer
+
+abbrev pub ReadWord : List ℕ → Word → Type 0
+ReadWord row answer = answer ≡ readWord row
+
+abbrev pub WroteBlock : ℕ → List ℕ → List ℕ → List ℕ → Written → Type 0
+WroteBlock link datagram old new answer = Wrote (writeBlock link datagram (length old)) old new answer
+
+abbrev pub ReadBlock : ℕ → List ℕ → List ℕ → List ℕ → Block → Type 0
+ReadBlock link bits old new answer = Wrote (readBlock link bits (length old)) old new answer
+
+abbrev pub WroteSlot : ℕ → List ℕ → List ℕ → List ℕ → Written → Type 0
+WroteSlot link datagram old new answer = Wrote (writeSlot link datagram (length old)) old new answer
+
+abbrev pub ReadSlot : List ℕ → List ℕ → List ℕ → Slot → Type 0
+ReadSlot burst old new answer = Wrote (readSlot burst (length old)) old new answer
+
+abbrev pub Stepped : List ℕ → ℕ → Step → Type 0
+Stepped datagram position answer = answer ≡ stepMessage datagram position
+
+-- ---- the lines of each call; `room` is the length of the lent buffer
+-- number above 63; buffer too short
+abbrev pub writeWordLines : ℕ → ℕ → Lines
+writeWordLines n room =
+    line notOffered (63 < n)
+    (line noRoom (room < 32)
+    none)
+
+-- not 32 bits; a byte neither 0 nor 1; no code word within seven
+abbrev pub readWordLines : List ℕ → Lines
+readWordLines row =
+    line wrongLength (length row ≡ 32 → ⊥)
+    (line noBit (allBits row ≡ false)
+    (line noWord ((n : ℕ) → n < 64 → 7 < differences (wordBits n) (map isOne row))
+    none))
+
+-- link not offered; datagram longer than the link holds; buffer too short
+abbrev pub writeBlockLines : ℕ → List ℕ → ℕ → Lines
+writeBlockLines link datagram room =
+    line notOffered (offered link ≡ false)
+    (line wrongLength (bytesHeld (rowOf link) < length datagram)
+    (line noRoom (room < imageLength (rowOf link))
+    none))
+
+-- what follows once the link is known: not N bits; buffer too short; a byte neither 0 nor 1; no valid block's image within one
+abbrev pub restLines : ℕ → List ℕ → ℕ → Lines
+restLines link bits room =
+    line wrongLength (length bits ≡ imageLength (rowOf link) → ⊥)
+    (line noRoom (room < bytesHeld (rowOf link))
+    (line noBit (allBits bits ≡ false)
+    (line noBlock ((u : List Bool) → Near (rowOf link) (map isOne bits) u → ⊥)
+    none)))
+
+-- link not offered; and what follows
+abbrev pub readBlockLines : ℕ → List ℕ → ℕ → Lines
+readBlockLines link bits room =
+    line notOffered (offered link ≡ false)
+    (restLines link bits room)
+
+-- slot burst not of link 5, 6, 7; datagram longer than the link holds; buffer too short
+abbrev pub writeSlotLines : ℕ → List ℕ → ℕ → Lines
+writeSlotLines link datagram room =
+    line notOffered (isSlotLink link ≡ false)
+    (line wrongLength (bytesHeld (rowOf link) < length datagram)
+    (line noRoom (room < burstLength link)
+    none))
+
+-- fewer than 86 bits; a non-bit in those 86; training differs
+abbrev pub trainingLines : List ℕ → Lines → Lines
+trainingLines burst behind =
+    line wrongLength (length burst < headLength)
+    (line noBit (allBits (headPart burst) ≡ false)
+    (line noTraining (map isOne (trainingPart burst) ≡ training → ⊥)
+    behind))
+
+-- the link that the word of a burst names
+abbrev pub named : List ℕ → ℕ
+named burst = readWord (wordPart burst) .number
+
+-- no code word within seven; slot burst not of link 5, 6, 7
+abbrev pub wordLines : List ℕ → Lines → Lines
+wordLines burst behind =
+    line noWord ((n : ℕ) → n < 64 → 7 < differences (wordBits n) (map isOne (wordPart burst)))
+    (line notOffered (isSlotLink (named burst) ≡ false)
+    behind)
+
+-- these, and then the rest as a block
+abbrev pub readSlotLines : List ℕ → ℕ → Lines
+readSlotLines burst room = trainingLines burst (wordLines burst (restLines (named burst) (blockPart burst) room))
+
+-- position past the end; then fewer than 3 bytes left, length below 7, or message past the end; or fill that holds another byte
+abbrev pub stepLines : List ℕ → ℕ → Lines
+stepLines datagram position =
+    line pastEnd (length datagram < position)
+    (line brokenMessage (Begins datagram position × Broken datagram position)
+    (line brokenFill (Spoilt datagram position)
+    none))
+
+-- ---- what readers answer
+-- a datagram, laid at the buffer's start, so many bytes of it; the bytes behind stay
+pub record Laid (datagram : List ℕ) (count : ℕ) (old new : List ℕ) : Type 0 where
+  pub full : count ≡ length datagram
+  pub front : take count new ≡ datagram
+  pub behind : drop count new ≡ drop count old
+
+-- a block's datagram, with the number of wrong places
+pub record BlockAnswer (datagram : List ℕ) (wrong : ℕ) (old new : List ℕ) (answer : Block) : Type 0 where
+  pub status : answer .status ≡ done
+  pub laid : Laid datagram (answer .count) old new
+  pub wrongs : answer .wrong ≡ wrong
+
+-- a slot burst's, with the link and the number of wrong places of its word
+pub record SlotAnswer (datagram : List ℕ) (wrong link wordWrong : ℕ) (old new : List ℕ) (answer : Slot) : Type 0 where
+  pub status : answer .status ≡ done
+  pub laid : Laid datagram (answer .count) old new
+  pub wrongs : answer .wrong ≡ wrong
+  pub links : answer .link ≡ link
+  pub word-wrongs : answer .«word_wrong» ≡ wordWrong

@@ -1,0 +1,174 @@
+-- The three demands, sentence by sentence: statements only, about the relations that the contracts of the public calls name.
+use mathlib.Core.Path.{_≡_}
+use mathlib.Core.Logic.{_↔_}
+use mathlib.Core.Bool.{Bool, true, false}
+use mathlib.Core.List.{List, [], _∷_, _++_, map}
+use Prim.Native.Nat.{ℕ, _+_, _*_, _<_, _≤_}
+use lib.ListN.{length, getD, take, drop}
+use Rattle.answers.specs.declared.Written.{Written}
+use Rattle.answers.specs.Numbers.{done, noWord, noBlock, brokenMessage}
+use Rattle.bits.specs.Bits.{isOne, byte}
+use Rattle.bits.specs.Datagram.{allBytes}
+use Rattle.bits.specs.Row.{differences, flip}
+use Rattle.links.specs.Rows.{rows, offered, rowOf}
+use Rattle.links.specs.Sizes.{bytesHeld, imageLength}
+use Rattle.turbo.specs.Interleaver.{position, InBlock}
+use Rattle.words.specs.declared.Word.{Word}
+use Rattle.words.specs.Word.{wordBits}
+use Rattle.words.specs.Near.{Near as NearWord}
+use Rattle.words.specs.Calls.{readWord, found, refused as wordRefused}
+use Rattle.blocks.specs.declared.Block.{Block}
+use Rattle.blocks.specs.Block.{blockOf, imageOf, datagramOf, zeroFilled}
+use Rattle.blocks.specs.Near.{Valid, Near as NearBlock}
+use Rattle.slots.specs.declared.Slot.{Slot}
+use Rattle.slots.specs.Burst.{trainingPart, wordPart, blockPart, isSlotLink, burstLength, burstOf}
+use Rattle.slots.specs.Near.{Near as NearBurst}
+use Rattle.messages.specs.declared.Step.{Step}
+use Rattle.messages.specs.Places.{byteAt, Fill, FillFrom, Whole}
+use Rattle.messages.specs.Step.{finished, message, refused as stepRefused, stepMessage}
+use Rattle.messages.specs.Tiling.{Tiles, Tiled, bytesOf}
+use Rattle.messages.specs.Walk.{Walks, walk}
+use Rattle.claims.specs.Lines.{Lines, Given}
+use Rattle.claims.specs.Calls.{WroteWord, ReadWord, WroteBlock, ReadBlock, WroteSlot, ReadSlot, Stepped, writeWordLines, readWordLines, writeBlockLines, readBlockLines, writeSlotLines, readSlotLines, stepLines, BlockAnswer, SlotAnswer}
+
+-- "Every call ends and touches nothing but its own buffers, for all input, lying input included." There is no theorem of this: the
+-- checker accepts a function only if it ends for all input and stays inside what it is lent, and no public call has a `requires`.
+pub record Demand1 : Type 1 where
+  -- "A call that can't be met gives the numbered refusal of document 01": the number is that of the first line that applies, and 0
+  -- where none does. Lines give one number only
+  pub one-number : (lines : Lines) (a b : ℕ) → Given lines a → Given lines b → a ≡ b
+  pub write-word-number : (n : ℕ) (old new : List ℕ) (answer : Written) → WroteWord n old new answer → Given (writeWordLines n (length old)) (answer .status)
+  pub read-word-number : (row : List ℕ) (answer : Word) → ReadWord row answer → Given (readWordLines row) (answer .status)
+  pub write-block-number : (link : ℕ) (datagram old new : List ℕ) (answer : Written) → WroteBlock link datagram old new answer → Given (writeBlockLines link datagram (length old)) (answer .status)
+  pub read-block-number : (link : ℕ) (bits old new : List ℕ) (answer : Block) → ReadBlock link bits old new answer → Given (readBlockLines link bits (length old)) (answer .status)
+  pub write-slot-number : (link : ℕ) (datagram old new : List ℕ) (answer : Written) → WroteSlot link datagram old new answer → Given (writeSlotLines link datagram (length old)) (answer .status)
+  pub read-slot-number : (burst old new : List ℕ) (answer : Slot) → ReadSlot burst old new answer → Given (readSlotLines burst (length old)) (answer .status)
+  pub step-number : (datagram : List ℕ) (position : ℕ) (answer : Step) → Stepped datagram position answer → Given (stepLines datagram position) (answer .status)
+  -- "and changes no lent byte", with 0 for all other numbers
+  pub write-word-refused : (n : ℕ) (old new : List ℕ) (answer : Written) → WroteWord n old new answer → (answer .status ≡ done → ⊥) → (answer .count ≡ 0) × (new ≡ old)
+  pub read-word-refused : (row : List ℕ) (answer : Word) → ReadWord row answer → (answer .status ≡ done → ⊥) → (answer .number ≡ 0) × (answer .wrong ≡ 0)
+  pub write-block-refused : (link : ℕ) (datagram old new : List ℕ) (answer : Written) → WroteBlock link datagram old new answer → (answer .status ≡ done → ⊥) → (answer .count ≡ 0) × (new ≡ old)
+  pub read-block-refused : (link : ℕ) (bits old new : List ℕ) (answer : Block) → ReadBlock link bits old new answer → (answer .status ≡ done → ⊥)
+      → (answer .count ≡ 0) × (answer .wrong ≡ 0) × (new ≡ old)
+  pub write-slot-refused : (link : ℕ) (datagram old new : List ℕ) (answer : Written) → WroteSlot link datagram old new answer → (answer .status ≡ done → ⊥) → (answer .count ≡ 0) × (new ≡ old)
+  pub read-slot-refused : (burst old new : List ℕ) (answer : Slot) → ReadSlot burst old new answer → (answer .status ≡ done → ⊥)
+      → (answer .count ≡ 0) × (answer .wrong ≡ 0) × (answer .link ≡ 0) × (answer .«word_wrong» ≡ 0) × (new ≡ old)
+  pub step-refused : (datagram : List ℕ) (position : ℕ) (answer : Step) → Stepped datagram position answer → (answer .status ≡ done → ⊥) → (answer .start ≡ 0) × (answer .length ≡ 0)
+  -- bytes behind those that are answered stay
+  pub write-word-behind : (n : ℕ) (old new : List ℕ) (answer : Written) → WroteWord n old new answer → drop (answer .count) new ≡ drop (answer .count) old
+  pub write-block-behind : (link : ℕ) (datagram old new : List ℕ) (answer : Written) → WroteBlock link datagram old new answer → drop (answer .count) new ≡ drop (answer .count) old
+  pub read-block-behind : (link : ℕ) (bits old new : List ℕ) (answer : Block) → ReadBlock link bits old new answer → drop (answer .count) new ≡ drop (answer .count) old
+  pub write-slot-behind : (link : ℕ) (datagram old new : List ℕ) (answer : Written) → WroteSlot link datagram old new answer → drop (answer .count) new ≡ drop (answer .count) old
+  pub read-slot-behind : (burst old new : List ℕ) (answer : Slot) → ReadSlot burst old new answer → drop (answer .count) new ≡ drop (answer .count) old
+  -- "Two calls with equal requests and equally long buffers give equal answers and write equal bytes, however the old contents of
+  -- the buffers differed."
+  pub write-word-determined : (n : ℕ) (old old' new new' : List ℕ) (answer answer' : Written) → length old ≡ length old'
+      → WroteWord n old new answer → WroteWord n old' new' answer' → (answer ≡ answer') × (take (answer .count) new ≡ take (answer .count) new')
+  pub read-word-determined : (row : List ℕ) (answer answer' : Word) → ReadWord row answer → ReadWord row answer' → answer ≡ answer'
+  pub write-block-determined : (link : ℕ) (datagram old old' new new' : List ℕ) (answer answer' : Written) → length old ≡ length old'
+      → WroteBlock link datagram old new answer → WroteBlock link datagram old' new' answer' → (answer ≡ answer') × (take (answer .count) new ≡ take (answer .count) new')
+  pub read-block-determined : (link : ℕ) (bits old old' new new' : List ℕ) (answer answer' : Block) → length old ≡ length old'
+      → ReadBlock link bits old new answer → ReadBlock link bits old' new' answer' → (answer ≡ answer') × (take (answer .count) new ≡ take (answer .count) new')
+  pub write-slot-determined : (link : ℕ) (datagram old old' new new' : List ℕ) (answer answer' : Written) → length old ≡ length old'
+      → WroteSlot link datagram old new answer → WroteSlot link datagram old' new' answer' → (answer ≡ answer') × (take (answer .count) new ≡ take (answer .count) new')
+  pub read-slot-determined : (burst old old' new new' : List ℕ) (answer answer' : Slot) → length old ≡ length old'
+      → ReadSlot burst old new answer → ReadSlot burst old' new' answer' → (answer ≡ answer') × (take (answer .count) new ≡ take (answer .count) new')
+  pub step-determined : (datagram : List ℕ) (position : ℕ) (answer answer' : Step) → Stepped datagram position answer → Stepped datagram position answer' → answer ≡ answer'
+
+pub record Demand2 : Type 0 where
+  -- "Link words, blocks and slot bursts are those of ITU-R M.2092-1, for the twenty-two links that document 01 lists": they are what
+  -- is written whenever the request can be met. That the definitions are the Recommendation's is read beside it, and tried
+  pub links : map (λ row. row .link) rows ≡ 5 ∷ 6 ∷ 7 ∷ 8 ∷ 9 ∷ 10 ∷ 11 ∷ 12 ∷ 13 ∷ 14 ∷ 15 ∷ 16 ∷ 17 ∷ 18 ∷ 19 ∷ 20 ∷ 21 ∷ 22 ∷ 23 ∷ 25 ∷ 32 ∷ 33 ∷ []
+  pub words-written : (n : ℕ) (old new : List ℕ) (answer : Written) → n ≤ 63 → 32 ≤ length old
+      → WroteWord n old new answer → (answer .status ≡ done) × (answer .count ≡ 32) × (take 32 new ≡ map byte (wordBits n))
+  pub blocks-written : (link : ℕ) (datagram old new : List ℕ) (answer : Written) → offered link ≡ true → length datagram ≤ bytesHeld (rowOf link) → imageLength (rowOf link) ≤ length old
+      → WroteBlock link datagram old new answer
+      → (answer .status ≡ done) × (answer .count ≡ imageLength (rowOf link)) × (take (answer .count) new ≡ map byte (imageOf (rowOf link) (blockOf (rowOf link) datagram)))
+  pub slots-written : (link : ℕ) (datagram old new : List ℕ) (answer : Written) → isSlotLink link ≡ true → length datagram ≤ bytesHeld (rowOf link) → burstLength link ≤ length old
+      → WroteSlot link datagram old new answer
+      → (answer .status ≡ done) × (answer .count ≡ burstLength link) × (take (answer .count) new ≡ map byte (burstOf link datagram))
+  -- the interleaver is a permutation of 1 to k on every link
+  pub interleaver-within : (link : ℕ) → offered link ≡ true → (s : ℕ) → InBlock (rowOf link) (position (rowOf link) s)
+  pub interleaver-once : (link : ℕ) → offered link ≡ true → (s r : ℕ) → InBlock (rowOf link) s → InBlock (rowOf link) r → position (rowOf link) s ≡ position (rowOf link) r → s ≡ r
+  pub interleaver-onto : (link : ℕ) → offered link ≡ true → (r : ℕ) → InBlock (rowOf link) r → (s : ℕ) × InBlock (rowOf link) s × (position (rowOf link) s ≡ r)
+  -- "What we write we read back: the datagram, zero-filled to its link's size."
+  pub words-back : (n : ℕ) (old new : List ℕ) (answer : Written) → WroteWord n old new answer → answer .status ≡ done → readWord (take (answer .count) new) ≡ found n 0
+  pub blocks-back : (link : ℕ) (datagram old new : List ℕ) (written : Written) → allBytes datagram ≡ true → WroteBlock link datagram old new written → written .status ≡ done
+      → (old' new' : List ℕ) (answer : Block) → bytesHeld (rowOf link) ≤ length old' → ReadBlock link (take (written .count) new) old' new' answer
+      → BlockAnswer (zeroFilled (rowOf link) datagram) 0 old' new' answer
+  pub slots-back : (link : ℕ) (datagram old new : List ℕ) (written : Written) → allBytes datagram ≡ true → WroteSlot link datagram old new written → written .status ≡ done
+      → (old' new' : List ℕ) (answer : Slot) → bytesHeld (rowOf link) ≤ length old' → ReadSlot (take (written .count) new) old' new' answer
+      → SlotAnswer (zeroFilled (rowOf link) datagram) 0 link 0 old' new' answer
+  -- zeros at a datagram's end are kept: a reader answers all the bytes that the link holds
+  pub blocks-full : (link : ℕ) (bits old new : List ℕ) (answer : Block) → ReadBlock link bits old new answer → answer .status ≡ done → answer .count ≡ bytesHeld (rowOf link)
+  pub slots-full : (burst old new : List ℕ) (answer : Slot) → ReadSlot burst old new answer → answer .status ≡ done → answer .count ≡ bytesHeld (rowOf (answer .link))
+  -- "Messages are divided as document 01 says." Whatever a step answers lies inside the datagram
+  pub step-inside : (datagram : List ℕ) (position : ℕ) (answer : Step) → Stepped datagram position answer → answer .start + answer .length ≤ length datagram
+  -- a message is answered exactly where one begins that is as long as it declares, at least 7, and ends inside the datagram
+  pub message-found : (datagram : List ℕ) (position start total : ℕ)
+      → ((stepMessage datagram position ≡ message start total) × (0 < total)) ↔ ((start ≡ position) × Whole datagram position total)
+  -- "finished": at the end, or where all bytes from the position on are 0 or 81
+  pub step-finished : (datagram : List ℕ) (position : ℕ) → (stepMessage datagram position ≡ finished) ↔ ((position ≤ length datagram) × FillFrom datagram position)
+  -- the lie of last spring: any burst of one slot whose message declares 900 bytes
+  pub lie-refused : (datagram : List ℕ) → length datagram ≡ bytesHeld (rowOf 5) → (Fill (byteAt datagram 0) → ⊥) → byteAt datagram 1 * 256 + byteAt datagram 2 ≡ 900
+      → stepMessage datagram 0 ≡ stepRefused brokenMessage
+  -- stepping from 0, each next step at start + length, ends, and with one outcome
+  pub walk-ends : (datagram : List ℕ) → Walks datagram 0 (walk datagram .found) (walk datagram .last)
+  pub walk-determined : (datagram : List ℕ) (found found' : List Step) (last last' : Step) → Walks datagram 0 found last → Walks datagram 0 found' last'
+      → (found ≡ found') × (last ≡ last')
+  -- the messages found lie end to end from 0 to a place where fill begins or a step is refused; there is at most one to seven bytes
+  pub walk-tiles : (datagram : List ℕ) (found : List Step) (last : Step) → Walks datagram 0 found last → Tiled datagram 0 found last
+  pub walk-count : (datagram : List ℕ) (found : List Step) (last : Step) → Walks datagram 0 found last → 7 * length found ≤ length datagram
+  -- if it ends in "finished", all behind the last message is fill
+  pub walk-fill : (datagram : List ℕ) (found : List Step) → Walks datagram 0 found finished → (end : ℕ) × Tiles datagram 0 found end × FillFrom datagram end
+  -- the bytes of the messages and those behind them are the datagram
+  pub walk-bytes : (datagram : List ℕ) (found : List Step) (end : ℕ) → Tiles datagram 0 found end → bytesOf datagram found ++ drop end datagram ≡ datagram
+
+pub record Demand3 : Type 0 where
+  -- "One wrong bit in a block or link word is always mended": what was written, with any one place of the block inverted
+  pub block-mended : (link : ℕ) (datagram old new : List ℕ) (written : Written) → allBytes datagram ≡ true → WroteBlock link datagram old new written → written .status ≡ done
+      → (place : ℕ) → place < written .count → (old' new' : List ℕ) (answer : Block) → bytesHeld (rowOf link) ≤ length old'
+      → ReadBlock link (map byte (flip place (map isOne (take (written .count) new)))) old' new' answer
+      → BlockAnswer (zeroFilled (rowOf link) datagram) 1 old' new' answer
+  -- with up to seven places of the word wrong
+  pub word-mended : (n : ℕ) → n < 64 → (row : List Bool) → length row ≡ 32 → differences (wordBits n) row ≤ 7 → readWord (map byte row) ≡ found n (differences (wordBits n) row)
+  -- and a burst with both
+  pub slot-mended : (link : ℕ) (datagram old new : List ℕ) (written : Written) → allBytes datagram ≡ true → WroteSlot link datagram old new written → written .status ≡ done
+      → (came : List Bool) → length came ≡ written .count → trainingPart came ≡ trainingPart (burstOf link datagram)
+      → differences (wordPart (burstOf link datagram)) (wordPart came) ≤ 7 → differences (blockPart (burstOf link datagram)) (blockPart came) ≤ 1
+      → (old' new' : List ℕ) (answer : Slot) → bytesHeld (rowOf link) ≤ length old' → ReadSlot (map byte came) old' new' answer
+      → SlotAnswer (zeroFilled (rowOf link) datagram) (differences (blockPart (burstOf link datagram)) (blockPart came)) link (differences (wordPart (burstOf link datagram)) (wordPart came)) old' new' answer
+  -- "and never mistaken": two different code words differ in at least 16 places, two valid blocks of a link and their images in three
+  pub words-apart : (m n : ℕ) → m < 64 → n < 64 → (m ≡ n → ⊥) → 16 ≤ differences (wordBits m) (wordBits n)
+  pub blocks-apart : (link : ℕ) → offered link ≡ true → (u w : List Bool) → Valid (rowOf link) u → Valid (rowOf link) w → (u ≡ w → ⊥) → 3 ≤ differences u w
+  pub images-apart : (link : ℕ) → offered link ≡ true → (u w : List Bool) → Valid (rowOf link) u → Valid (rowOf link) w → (u ≡ w → ⊥)
+      → 3 ≤ differences (imageOf (rowOf link) u) (imageOf (rowOf link) w)
+  -- "A block of the right length, made of bits, in a large enough buffer, is answered exactly when some valid block's image differs
+  -- from it in at most one place."
+  pub block-exact : (link : ℕ) → offered link ≡ true → (came : List Bool) → length came ≡ imageLength (rowOf link) → (old new : List ℕ) (answer : Block)
+      → bytesHeld (rowOf link) ≤ length old → ReadBlock link (map byte came) old new answer
+      → (answer .status ≡ done) ↔ ((u : List Bool) × NearBlock (rowOf link) came u)
+  pub block-none : (link : ℕ) → offered link ≡ true → (came : List Bool) → length came ≡ imageLength (rowOf link) → (old new : List ℕ) (answer : Block)
+      → bytesHeld (rowOf link) ≤ length old → ReadBlock link (map byte came) old new answer
+      → (answer .status ≡ noBlock) ↔ ((u : List Bool) → NearBlock (rowOf link) came u → ⊥)
+  -- "Only one such block then exists,"
+  pub block-only-one : (link : ℕ) → offered link ≡ true → (came u w : List Bool) → NearBlock (rowOf link) came u → NearBlock (rowOf link) came w → u ≡ w
+  -- "and its datagram is the answer, with the true number of wrong bits."
+  pub block-answered : (link : ℕ) → offered link ≡ true → (came : List Bool) → length came ≡ imageLength (rowOf link) → (old new : List ℕ) (answer : Block)
+      → bytesHeld (rowOf link) ≤ length old → ReadBlock link (map byte came) old new answer
+      → (u : List Bool) → NearBlock (rowOf link) came u → BlockAnswer (datagramOf (rowOf link) u) (differences (imageOf (rowOf link) u) came) old new answer
+  -- link 12: a one among the four bits over is never valid, even under a right check
+  pub over-12 : (u : List Bool) → Valid (rowOf 12) u → (i : ℕ) → i < 4 → getD u (936 + i) false ≡ false
+  -- "A 32-bit link word is answered exactly when one of the 64 code words is within seven places; that one is the answer."
+  pub word-exact : (row : List Bool) → length row ≡ 32 → (n wrong : ℕ) → (readWord (map byte row) ≡ found n wrong) ↔ NearWord row n wrong
+  pub word-none : (row : List Bool) → length row ≡ 32 → (readWord (map byte row) ≡ wordRefused noWord) ↔ ((n : ℕ) → n < 64 → 7 < differences (wordBits n) row)
+  pub word-only-one : (row : List Bool) (m n a b : ℕ) → NearWord row m a → NearWord row n b → m ≡ n
+  -- and so of slot bursts: answered exactly when the training is right, the word of a slot link is within seven places of the word, a
+  -- valid block's image of that link is within one place of the rest, and the buffer is large enough
+  pub slot-exact : (came : List Bool) (old new : List ℕ) (answer : Slot) → ReadSlot (map byte came) old new answer
+      → (answer .status ≡ done) ↔ ((link : ℕ) × (wordWrong : ℕ) × (u : List Bool) × NearBurst came link wordWrong u × (bytesHeld (rowOf link) ≤ length old))
+  pub slot-only-one : (came : List Bool) (link link' wrong wrong' : ℕ) (u u' : List Bool) → NearBurst came link wrong u → NearBurst came link' wrong' u'
+      → (link ≡ link') × (wrong ≡ wrong') × (u ≡ u')
+  pub slot-answered : (came : List Bool) (link wordWrong : ℕ) (u : List Bool) → NearBurst came link wordWrong u → (old new : List ℕ) (answer : Slot)
+      → bytesHeld (rowOf link) ≤ length old → ReadSlot (map byte came) old new answer
+      → SlotAnswer (datagramOf (rowOf link) u) (differences (imageOf (rowOf link) u) (blockPart came)) link wordWrong old new answer
