@@ -13,10 +13,11 @@
 
    status  when
      0     done
-     1     link not offered; number above 63 for a link word
-     2     datagram longer than the link holds; block or link word of the wrong length
+     1     link not offered; number above 63 for a link word; slot burst not of link 5, 6, 7
+     2     datagram longer than the link holds; link word, block or slot burst of the wrong length
      3     output buffer too short
      4     a byte neither 0 nor 1
+     5     training differs
      6     no code word within seven
      7     no valid block differs in at most one place
      8     position past the end
@@ -54,6 +55,16 @@ typedef struct {
     uint32_t wrong;
 } decklewren_block;
 
+/* What reading a slot burst answers: count and wrong as reading its block does, the link that its link word names,
+   and word_wrong, the number of places, 0 to 7, where the link word differs. */
+typedef struct {
+    uint32_t status;
+    uint32_t count;
+    uint32_t wrong;
+    uint32_t link;
+    uint32_t word_wrong;
+} decklewren_slot;
+
 /* What a step through a datagram answers: where a message starts and its total length; both are 0 where no more follow. */
 typedef struct {
     uint32_t status;
@@ -89,6 +100,23 @@ decklewren_written decklewren_write_block(uint32_t link, const uint8_t *datagram
             1 link not offered, 2 bits_len is not N, 3 out_len below the bytes that the link holds,
             4 a byte neither 0 nor 1, 7 no valid block differs in at most one place */
 decklewren_block decklewren_read_block(uint32_t link, const uint8_t *bits, size_t bits_len, uint8_t *out, size_t out_len);
+
+/* Writes the slot burst of a datagram (M.2092-1, Annex 3, Table 23): 54 bits of training, the link word, the block.
+   In:      link, 5, 6 or 7; datagram, at most as many bytes as the link holds (32, 80, 128); it is filled with zero bytes
+   Out:     86 + N bytes 0 or 1 at the start of out, N being the link's: 480, 992 or 1504; bytes behind stay
+   Returns: status 0 and count 86 + N; else, the first of these that applies:
+            1 link not 5, 6, 7, 2 datagram longer than the link holds, 3 out_len below 86 + N */
+decklewren_written decklewren_write_slot(uint32_t link, const uint8_t *datagram, size_t datagram_len, uint8_t *out, size_t out_len);
+
+/* Reads a slot burst, with at most seven bits of its link word wrong and at most one of its block.
+   In:      bits, 86 + N bytes 0 or 1, N being that of the link which the link word names: 480, 992 or 1504
+   Out:     the datagram, all the bytes that the link holds (32, 80, 128), at the start of out; bytes behind stay
+   Returns: status 0, count, how many places of the block are wrong, the link, and how many of its word are;
+            else, the first of these that applies:
+            2 bits_len below 86, 4 a byte neither 0 nor 1 in these 86, 5 training differs, 6 no code word within seven,
+            1 link not 5, 6, 7, 2 the rest is not N long, 3 out_len below the bytes that the link holds,
+            4 a byte neither 0 nor 1 in the rest, 7 no valid block differs from the rest in at most one place */
+decklewren_slot decklewren_read_slot(const uint8_t *bits, size_t bits_len, uint8_t *out, size_t out_len);
 
 /* Finds the message that begins at a position of a datagram (docs/MESSAGES.md has the loop that walks one).
    In:      datagram, and any position
