@@ -25,6 +25,16 @@ pub struct BlockRead {
 
 #[repr(C)]
 #[derive(Clone, Copy, Debug, PartialEq)]
+pub struct SlotRead {
+    pub status: u32,
+    pub count: u32,
+    pub wrong: u32,
+    pub link: u32,
+    pub word_wrong: u32,
+}
+
+#[repr(C)]
+#[derive(Clone, Copy, Debug, PartialEq)]
 pub struct Stepped {
     pub status: u32,
     pub start: u64,
@@ -48,6 +58,19 @@ extern "C" {
         out: *mut u8,
         out_len: usize,
     ) -> BlockRead;
+    fn decklewren_write_slot(
+        link: u32,
+        datagram: *const u8,
+        datagram_len: usize,
+        out: *mut u8,
+        out_len: usize,
+    ) -> Written;
+    fn decklewren_read_slot(
+        bits: *const u8,
+        bits_len: usize,
+        out: *mut u8,
+        out_len: usize,
+    ) -> SlotRead;
     fn decklewren_step_message(
         datagram: *const u8,
         datagram_len: usize,
@@ -77,6 +100,18 @@ pub fn read_block(link: u32, bits: &mut [u8], out: &mut [u8]) -> BlockRead {
     let (bits, bits_len) = (bits.as_mut_ptr(), bits.len());
     // SAFETY: each pointer and its length are those of one slice, lent for the call.
     unsafe { decklewren_read_block(link, bits, bits_len, out.as_mut_ptr(), out.len()) }
+}
+
+pub fn write_slot(link: u32, datagram: &mut [u8], out: &mut [u8]) -> Written {
+    let (datagram, datagram_len) = (datagram.as_mut_ptr(), datagram.len());
+    // SAFETY: each pointer and its length are those of one slice, lent for the call.
+    unsafe { decklewren_write_slot(link, datagram, datagram_len, out.as_mut_ptr(), out.len()) }
+}
+
+pub fn read_slot(bits: &mut [u8], out: &mut [u8]) -> SlotRead {
+    let (bits, bits_len) = (bits.as_mut_ptr(), bits.len());
+    // SAFETY: each pointer and its length are those of one slice, lent for the call.
+    unsafe { decklewren_read_slot(bits, bits_len, out.as_mut_ptr(), out.len()) }
 }
 
 pub fn step_message(datagram: &mut [u8], position: usize) -> Stepped {

@@ -168,31 +168,41 @@ fn read<A: Debug + PartialEq>(
     test.case(name, expected, calls);
 }
 
-/// The rooms of a call that reads one buffer and writes another.
+/// The rooms of a call that reads one buffer and writes another, and what the output's holds before
+/// each call of a case.
 pub struct Rooms {
-    pub input: Guarded,
-    pub output: Guarded,
+    input: Guarded,
+    output: Guarded,
+    old_contents: Vec<Vec<u8>>,
 }
 
 impl Rooms {
     pub fn new() -> Rooms {
-        Rooms {
-            input: Guarded::new(),
-            output: Guarded::new(),
-        }
+        Rooms::of(Guarded::new(), old_contents().to_vec())
     }
 
     /// Rooms of which the input's is read-only while a call is made.
     pub fn with_read_only_input() -> Rooms {
+        Rooms::of(Guarded::read_only_in_calls(), old_contents().to_vec())
+    }
+
+    /// Rooms of which the output's is filled with each of the 256 bytes in turn.
+    pub fn over_any_bytes() -> Rooms {
+        let fills = (0..=255).map(|byte| vec![byte; ROOM]);
+        Rooms::of(Guarded::new(), fills.collect())
+    }
+
+    fn of(input: Guarded, old_contents: Vec<Vec<u8>>) -> Rooms {
         Rooms {
-            input: Guarded::read_only_in_calls(),
+            input,
             output: Guarded::new(),
+            old_contents,
         }
     }
 }
 
 /// A call that reads this input and writes to a buffer of this length: it is to give this answer
-/// and to write these bytes. It is made twice, over different old contents.
+/// and to write these bytes. It is made over each of the old contents, at both places in turn.
 pub fn code<A: Debug + PartialEq>(
     test: &mut Test,
     rooms: &mut Rooms,
@@ -204,7 +214,7 @@ pub fn code<A: Debug + PartialEq>(
 ) {
     let (answer, written) = expected;
     let count = written.len();
-    let ways = BOTH_PLACES.into_iter().zip(old_contents());
+    let ways = BOTH_PLACES.into_iter().cycle().zip(&rooms.old_contents);
     let calls = ways.map(|(placed, old)| {
         let lent = input.len();
         rooms.input.buffer(placed, lent).copy_from_slice(input);
@@ -252,7 +262,12 @@ pub fn to_be_written(expected: Result<Vec<u8>, Refusal>) -> (Written, Vec<u8>) {
 
 /// A row for a person to read: bits as digits, other bytes in brackets, a long row cut short.
 pub fn shown(row: &[u8]) -> String {
-    let places = row.iter().take(64).map(|byte| match byte {
+    shown_to(64, row)
+}
+
+/// A row for a person to read, cut short behind this many places.
+pub fn shown_to(limit: usize, row: &[u8]) -> String {
+    let places = row.iter().take(limit).map(|byte| match byte {
         0 | 1 => byte.to_string(),
         _ => format!("<{byte}>"),
     });

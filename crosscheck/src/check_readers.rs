@@ -8,10 +8,10 @@ use crate::links::Link;
 use crate::readers::{flips_with_right_check, read_plainly, read_quickly};
 use crate::report::{named_tests, Given, NamedTest, Test};
 use crate::samples::{
-    found, image_of, random_datagram, rows_with_bits_over, slot_with_one_wrong, two_places,
+    burst_of, found, image_of, random_datagram, rows_with_bits_over, slot_with_wrong, two_places,
 };
 use crate::second::Second;
-use crate::slots::{HEAD, SLOT_LINKS};
+use crate::slots::SLOT_LINKS;
 
 pub const TESTS: &[NamedTest] = named_tests![
     second_reads_what_it_writes,
@@ -94,12 +94,11 @@ fn second_reads_slots_with_one_wrong(given: &Given, test: &mut Test) {
     for number in SLOT_LINKS {
         let link = second.links.of(number);
         let datagram = random_datagram(link, &mut random);
-        let written = second.write_slot(number, &datagram, HEAD + link.image_length());
-        let burst = written.expect("a burst is written");
+        let burst = burst_of(&second, link, &datagram);
         for place in 0..burst.len() {
             let read = second.read_slot(&inverted(&burst, &[place]), link.bytes());
             let call = || format!("slot of link {number}, {datagram:?}, place {place}");
-            test.case(call, slot_with_one_wrong(link, &datagram, place), [read]);
+            test.case(call, slot_with_wrong(link, &datagram, &[place]), [read]);
         }
     }
 }

@@ -1,8 +1,11 @@
 //! The tests of the second implementation's refusals and counts.
 
+use crate::mixed_faults;
 use crate::ordered_faults;
 use crate::report::{named_tests, Given, NamedTest, Test};
+use crate::samples::SLOT_SIZES;
 use crate::second::Second;
+use crate::slots::SLOT_LINKS;
 
 pub const TESTS: &[NamedTest] = named_tests![
     second_holds_p10,
@@ -11,6 +14,7 @@ pub const TESTS: &[NamedTest] = named_tests![
     second_orders_refusals_to_read_blocks,
     second_orders_refusals_to_write_slots,
     second_orders_refusals_to_read_slots,
+    second_orders_mixed_faults_of_slots,
 ];
 
 fn second_holds_p10(given: &Given, test: &mut Test) {
@@ -38,7 +42,7 @@ fn second_answers_exact_counts(given: &Given, test: &mut Test) {
             test.case(call, Ok((length, Ok(bytes))), [counts]);
         }
     }
-    for (link, bytes, length) in [(5, 32, 480), (6, 80, 992), (7, 128, 1504)] {
+    for (link, bytes, length) in SLOT_SIZES {
         for (datagram, more) in [(0, 0), (bytes, 0), (0, 7), (bytes, 7)] {
             let written = second.write_slot(link, &vec![1; datagram], length + more);
             let counts = written.map(|row| {
@@ -83,5 +87,17 @@ fn second_orders_refusals_to_read_slots(given: &Given, test: &mut Test) {
     for ((burst, buffer), refusal) in ordered_faults::reading_slots(&second) {
         let call = || format!("read slot, buffer of {buffer}, {burst:?}");
         test.case(call, Err(refusal), [second.read_slot(&burst, buffer)]);
+    }
+}
+
+fn second_orders_mixed_faults_of_slots(given: &Given, test: &mut Test) {
+    let second = Second::read(&given.tables);
+    let mut random = test.random(13);
+    for number in SLOT_LINKS {
+        let link = second.links.of(number);
+        for ((burst, buffer), refusal) in mixed_faults::reading_slots(&second, link, &mut random) {
+            let call = || format!("read slot, buffer of {buffer}, {burst:?}");
+            test.case(call, Err(refusal), [second.read_slot(&burst, buffer)]);
+        }
     }
 }

@@ -9,6 +9,7 @@ mod bits;
 mod blocks;
 mod both_ways;
 mod both_ways_blocks;
+mod both_ways_slots;
 mod check_blocks_reading;
 mod check_blocks_writing;
 mod check_coding;
@@ -17,6 +18,9 @@ mod check_messages;
 mod check_printer;
 mod check_readers;
 mod check_refusals;
+mod check_slots_reading;
+mod check_slots_refusals;
+mod check_slots_writing;
 mod check_words;
 mod check_worked_burst;
 mod crc;
@@ -28,6 +32,7 @@ mod interleaver;
 mod link_tables;
 mod links;
 mod messages;
+mod mixed_faults;
 mod ordered_faults;
 mod program;
 mod random;
@@ -58,6 +63,9 @@ fn main() -> ExitCode {
         check_messages::TESTS,
         check_blocks_writing::TESTS,
         check_blocks_reading::TESTS,
+        check_slots_writing::TESTS,
+        check_slots_reading::TESTS,
+        check_slots_refusals::TESTS,
     ]
     .concat();
     let (given, chosen) = match arguments.as_slice() {

@@ -2,6 +2,7 @@
 //! ("Numbers a caller gets back").
 
 use crate::bits::{bits, inverted};
+use crate::samples::SLOT_SIZES;
 use crate::second::Second;
 use crate::slots::HEAD;
 use crate::words::Refusal;
@@ -57,7 +58,7 @@ pub fn writing_slots() -> Vec<(Writing, Refusal)> {
     let offered_for_blocks = (8..=23).chain([25, 32, 33]);
     let of_no_slot = NOT_OFFERED.into_iter().chain(offered_for_blocks);
     let mut faults: Vec<_> = of_no_slot.map(|link| ((link, 6000, 0), 1)).collect();
-    for (link, bytes, length) in [(5, 32, 480), (6, 80, 992), (7, 128, 1504)] {
+    for (link, bytes, length) in SLOT_SIZES {
         for buffer in [0, 53, 54, 85, 86, length - HEAD, length - 1, length] {
             faults.push(((link, bytes + 1, buffer), 2));
         }

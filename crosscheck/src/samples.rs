@@ -10,6 +10,10 @@ use crate::random::Random;
 use crate::second::Second;
 use crate::slots::{SlotReading, HEAD, TRAINING};
 use crate::words::Refusal;
+use std::ops::Range;
+
+/// Each slot link with the bytes that it holds and the bits of its burst, as document 01 gives them.
+pub const SLOT_SIZES: [(u32, usize, usize); 3] = [(5, 32, 480), (6, 80, 992), (7, 128, 1504)];
 
 /// A datagram of random bytes, of any length that the link holds.
 pub fn random_datagram(link: &Link, random: &mut Random) -> Vec<u8> {
@@ -84,20 +88,41 @@ pub fn rows_with_bits_over(
     rows
 }
 
-/// What reading the slot burst of this datagram answers where only this place is wrong.
-pub fn slot_with_one_wrong(
+/// The slot burst of the datagram.
+pub fn burst_of(second: &Second, link: &Link, datagram: &[u8]) -> Vec<u8> {
+    second
+        .write_slot(link.number, datagram, HEAD + link.image_length())
+        .expect("a burst is written")
+}
+
+/// What reading answers where the slot burst of this datagram is found.
+pub fn slot_found(
     link: &Link,
     datagram: &[u8],
-    place: usize,
+    wrong: u32,
+    word_wrong: u32,
 ) -> Result<SlotReading, Refusal> {
-    let (word_wrong, wrong) = match place {
-        0..TRAINING => return Err(5),
-        TRAINING..HEAD => (1, 0),
-        _ => (0, 1),
-    };
     Ok(SlotReading {
         block: found(link, datagram, wrong)?,
         link: link.number,
         word_wrong,
     })
+}
+
+/// What reading the slot burst of this datagram answers where these places are wrong, at most seven
+/// of them in the word and at most two in the block.
+pub fn slot_with_wrong(
+    link: &Link,
+    datagram: &[u8],
+    places: &[usize],
+) -> Result<SlotReading, Refusal> {
+    let wrong_in = |part: Range<usize>| places.iter().filter(|&place| part.contains(place)).count();
+    if wrong_in(0..TRAINING) > 0 {
+        return Err(5);
+    }
+    let word_wrong = wrong_in(TRAINING..HEAD) as u32;
+    match wrong_in(HEAD..HEAD + link.image_length()) {
+        wrong @ 0..=1 => slot_found(link, datagram, wrong as u32, word_wrong),
+        _ => Err(7),
+    }
 }
