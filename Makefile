@@ -1,20 +1,26 @@
-# make run: the link word printer on document 01's example, and the example of the README in C.
+# make run: the link word printer on document 01's example, the example of the README in C, and an ice notice through its day.
 # make test: the gate, as .ci/run runs it.
 # make bench: nanoseconds per block and ratios to a plain writer in C, measured in one run.
 .PHONY: run test bench
 
 CC ?= gcc
 CFLAGS = -std=c11 -O2 -Wall -Wextra -Wpedantic -Werror
+ARCHIVE = target/staticlib/libdecklewren.a
 
-run: build/example
-	rt check link_word_printer >build/printer.log
+run: build/example build/ice_notice
+	@rt check link_word_printer >build/printer.log 2>&1 || { cat build/printer.log; exit 1; }
 	target/bin/link_word_printer <crates/link_word_printer/stdin
 	build/example
+	build/ice_notice
 
-build/example: host/example.c include/decklewren.h
-	mkdir -p build
+build/example build/ice_notice: build/%: host/%.c include/decklewren.h $(ARCHIVE) | build
+	$(CC) $(CFLAGS) -Iinclude $< $(ARCHIVE) -o $@
+
+$(ARCHIVE): crates.txt $(wildcard crates/*/src/*.rt) | build
 	rt staticlib decklewren >build/staticlib.log
-	$(CC) $(CFLAGS) -Iinclude host/example.c target/staticlib/libdecklewren.a -o $@
+
+build:
+	mkdir -p build
 
 test:
 	bash .ci/run
@@ -22,7 +28,5 @@ test:
 bench: build/bench
 	build/bench
 
-build/bench: bench/bench.c bench/plain.c bench/plain.h include/decklewren.h
-	mkdir -p build
-	rt staticlib decklewren >build/staticlib.log
-	$(CC) $(CFLAGS) -O3 -pthread -Iinclude bench/bench.c bench/plain.c target/staticlib/libdecklewren.a -o $@
+build/bench: bench/bench.c bench/plain.c bench/plain.h include/decklewren.h $(ARCHIVE) | build
+	$(CC) $(CFLAGS) -O3 -pthread -Iinclude bench/bench.c bench/plain.c $(ARCHIVE) -o $@
