@@ -1,12 +1,12 @@
 -- The cases of document 01 hold: antt computes the words and the places where they differ, and reading is exact.
 -- Assumes nothing.
-use mathlib.Core.Path.{_≡_, refl}
+use mathlib.Core.Path.{_≡_, refl, ap}
 use mathlib.Core.Bool.{Bool, true}
-use mathlib.Core.List.{List, map}
+use mathlib.Core.List.{List, _++_, map}
 use Prim.Native.Nat.{ℕ, _<_}
 use native.Mathlib.Omega.{arith}
 use lib.Dec.{ltb, ltb→lt, lit<, lit≤}
-use lib.ListN.{length}
+use lib.ListN.{length, getD, length-map}
 use Rattle.answers.specs.Numbers.{wrongLength, noWord}
 use Rattle.answers.specs.Outcome.{refusal}
 use Rattle.lists.specs.All.{all}
@@ -14,10 +14,16 @@ use Rattle.lists.proofs.Line.{line}
 use Rattle.bits.specs.Bits.{byte}
 use Rattle.bits.specs.Row.{highFirst, differences}
 use Rattle.blocks.specs.Calls.{writeBlock}
-use Rattle.blocks.proofs.Calls.{write-long}
+use Rattle.blocks.proofs.Calls.{write-long, read-length}
 use Rattle.links.specs.Rows.{rows, placeIn, offered, rowOf}
-use Rattle.links.specs.Sizes.{bytesHeld}
+use Rattle.links.specs.Sizes.{bytesHeld, imageLength}
+use Rattle.links.proofs.Table.{image-lengths}
 use Rattle.messages.specs.Step.{fillAt, messageAt, stepAt, stepMessage}
+use Rattle.slots.specs.Burst.{headOf, blockPart, isSlotLink}
+use Rattle.slots.specs.Calls.{both, readSlot, refused as slot-refused}
+use Rattle.slots.proofs.Answered.{rest-joined}
+use Rattle.slots.proofs.Links.{slot-offered}
+use Rattle.slots.proofs.Parts.{near-head, block-of}
 use Rattle.turbo.proofs.Cases.{p7-y0, p7-y1, p8, p9}
 use Rattle.words.specs.Word.{generator, withRows, wordOf, wordBits}
 use Rattle.words.specs.Calls.{readWord, refused, found}
@@ -51,6 +57,19 @@ offered-12 = refl
 too-long : (datagram : List ℕ) (room : ℕ) → length datagram ≡ 118 → writeBlock 12 datagram room ≡ refusal wrongLength
 too-long datagram room l = write-long 12 datagram room offered-12 (omega (arith, held-by-12))
 
+-- N of the slot links
+images : (imageLength (rowOf 5) ≡ 394) × (imageLength (rowOf 6) ≡ 906) × (imageLength (rowOf 7) ≡ 1418)
+unfolding rows placeIn rowOf
+images = (ap (λ (l : List ℕ). getD l 0 0) image-lengths, ap (λ (l : List ℕ). getD l 1 0) image-lengths, ap (λ (l : List ℕ). getD l 2 0) image-lengths)
+
+-- the head of 7 is read, and what stands behind it is not as long as 7's images
+short-7 : (rest : List Bool) (room : ℕ) → length rest ≡ 394 → readSlot (map byte (headOf 7 ++ rest)) room ≡ slot-refused wrongLength
+unfolding both isSlotLink
+short-7 rest room size =
+    rest-joined (headOf 7 ++ rest) 7 0 (near-head 7 rest refl) room
+    (read-length 7 (map byte (blockPart (headOf 7 ++ rest))) room (slot-offered 7 refl)
+    (λ e. omega (arith, e, size, length-map (blockPart (headOf 7 ++ rest)) byte, ap length (block-of 7 rest), images .2)))
+
 pub cases : Cases
 unfolding generator withRows wordOf all fillAt messageAt stepAt stepMessage
-cases = record { P1 = refl; P2 = refl; P3 = refl; P4 = seven-wrong; P5 = eight-wrong; P6 = nine-wrong; P7 = (p7-y0, p7-y1); P8 = p8; P9 = p9; P10 = (held-by-12, too-long); P11 = (refl, refl, refl); P12 = (refl, refl, refl) }
+cases = record { P1 = refl; P2 = refl; P3 = refl; P4 = seven-wrong; P5 = eight-wrong; P6 = nine-wrong; P7 = (p7-y0, p7-y1); P8 = p8; P9 = p9; P10 = (held-by-12, too-long); P11 = (refl, refl, refl); P12 = (refl, refl, refl); short-7 = short-7; burst-lengths = rw (images .0, images .1, images .2) }

@@ -129,13 +129,13 @@ module _ (came : List Bool) (old new : List ℕ) (answer : Slot) (wr : ReadSlot 
 
 pub only-one : (came : List Bool) (link link' wrong wrong' : ℕ) (u u' : List Bool) → Near came link wrong u → Near came link' wrong' u' → (link ≡ link') × (wrong ≡ wrong') × (u ≡ u')
 only-one came link link' wrong wrong' u u' n n' =
-    let near = n .word in
-    let near' = n' .word in
+    let near = n .head .word in
+    let near' = n' .head .word in
     let same : link ≡ link' = words.only-one (wordPart came) link link' (near .known) (near' .known) (omega (arith, near .count, near .within)) (omega (arith, near' .count, near' .within)) in
     let row = ap rowOf same in (
       same,
       sym (near .count) ∙ ap (λ (l : ℕ). differences (wordBits l) (wordPart came)) same ∙ near' .count,
-      blocks.only-one (rowOf link') (good link' (slot-offered link' (n' .slot))) (blockPart came) u u' (rw row at (n .block)) (n' .block),
+      blocks.only-one (rowOf link') (good link' (slot-offered link' (n' .head .slot))) (blockPart came) u u' (rw row at (n .block)) (n' .block),
     )
 
 -- ---- what was written
@@ -185,10 +185,13 @@ module _ (link : ℕ) (datagram old new : List ℕ) (answer : Written) (bytes : 
       let row-good = good link (slot-offered link (i .slot)) in
       let u = blockOf (rowOf link) datagram in
       let near : Near came link (differences (wordBits link) (wordPart came)) u = record {
-        slot = i .slot;
+        head = record {
+          slot = i .slot;
+          long = omega (arith, size, i .long);
+          trained = trained ∙ training-of-burst link datagram;
+          word = record { known = slot-has-word link (i .slot); count = refl; within = rw (word-of-burst link datagram) at word };
+        };
         size = size ∙ i .long;
-        trained = trained ∙ training-of-burst link datagram;
-        word = record { known = slot-has-word link (i .slot); count = refl; within = rw (word-of-burst link datagram) at word };
         block = record { right = block-valid (rowOf link) row-good datagram (i .fits); within = rw (block-of-burst link datagram) at block };
       } in
       rw (word-of-burst link datagram, block-of-burst link datagram, ← datagram-in-block (rowOf link) row-good datagram (i .fits) bytes)

@@ -12,6 +12,8 @@ use Rattle.links.specs.Patterns.{flags}
 use Rattle.links.specs.Rows.{rowOf}
 use Rattle.links.specs.Sizes.{bytesHeld}
 use Rattle.messages.specs.Step.{stepMessage, finished, message, refused as step-refused}
+use Rattle.slots.specs.Burst.{headOf, burstLength}
+use Rattle.slots.specs.Calls.{readSlot, refused as slot-refused}
 use Rattle.turbo.specs.Encoder.{start, next, y0, y1}
 use Rattle.turbo.specs.Interleaver.{position}
 use Rattle.turbo.specs.Coded.{endingOf}
@@ -59,3 +61,7 @@ pub record Cases : Type 0 where
   pub P11 : (stepMessage (declaring 7) 0 ≡ message 0 7) × (stepMessage (declaring 7) 7 ≡ finished) × (stepMessage (declaring 7) 9 ≡ step-refused pastEnd)
   -- the same with length 8, and with 9 or 6
   pub P12 : (stepMessage (declaring 8) 0 ≡ message 0 8) × (stepMessage (declaring 9) 0 ≡ step-refused brokenMessage) × (stepMessage (declaring 6) 0 ≡ step-refused brokenMessage)
+  -- a slot burst of 480 bits under link 7's word
+  pub short-7 : (rest : List Bool) (room : ℕ) → length rest ≡ 394 → readSlot (map byte (headOf 7 ++ rest)) room ≡ slot-refused wrongLength
+  -- the lengths of slot bursts
+  pub burst-lengths : map burstLength (5 ∷ 6 ∷ 7 ∷ []) ≡ 480 ∷ 992 ∷ 1504 ∷ []

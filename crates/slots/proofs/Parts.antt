@@ -1,20 +1,25 @@
 -- The parts of what came, as bits and as the bytes that hold them, and the parts of a written burst.
 -- Assumes nothing.
 use mathlib.Core.Path.{_≡_, sym, ap, _∙_}
-use mathlib.Core.Bool.{Bool}
+use mathlib.Core.Bool.{Bool, true}
 use mathlib.Core.List.{List, _++_, map, append-assoc}
 use Prim.Native.Nat.{ℕ}
-use lib.ListN.{length, take, drop, length-map}
+use native.Mathlib.Omega.{arith}
+use lib.ListN.{length, take, drop, length-map, length-append}
 use lib.Seq.{take-at, drop-at}
 use Rattle.lists.proofs.Parts.{map-take, map-drop}
 use Rattle.bits.specs.Bits.{isOne, byte}
 use Rattle.bits.proofs.Bits.{bits-bytes}
+use Rattle.bits.specs.Row.{differences}
+use Rattle.bits.proofs.Differences.{differences-self}
 use Rattle.bits.proofs.Row.{length-highFirst}
 use Rattle.blocks.specs.Block.{blockOf, imageOf}
 use Rattle.links.specs.Rows.{rowOf}
 use Rattle.words.specs.Word.{wordOf, wordBits}
-use Rattle.slots.specs.Burst.{training, trainingLength, headLength, trainingPart, wordPart, blockPart, headOf, burstOf}
+use Rattle.slots.specs.Burst.{training, trainingLength, headLength, trainingPart, wordPart, blockPart, isSlotLink, headOf, burstOf}
+use Rattle.slots.specs.Near.{NearHead}
 use Rattle.slots.proofs.HeadLaid.{length-head}
+use Rattle.slots.proofs.Links.{slot-has-word}
 use Rattle.slots.proofs.Symbols.{length-training}
 
 module _ (came : List Bool) where
@@ -31,30 +36,54 @@ module _ (came : List Bool) where
   pub rest-back : map isOne (blockPart (map byte came)) ≡ blockPart came
   rest-back = ap (map isOne) rest-of-bytes ∙ bits-bytes (blockPart came)
 
--- ---- the parts of a burst are those that it is made of
+-- ---- the parts of a head with something behind it
 length-head-bits : (link : ℕ) → length (headOf link) ≡ headLength
 length-head-bits link = sym (length-map (headOf link) byte) ∙ length-head link
 
+training-long : length training ≡ trainingLength
+training-long = sym (length-map training byte) ∙ length-training
+
+module _ (link : ℕ) (rest : List Bool) where
+  training-first : headOf link ++ rest ≡ training ++ (wordBits link ++ rest)
+  unfolding headOf
+  training-first = append-assoc training (wordBits link) rest
+
+  training-of : trainingPart (headOf link ++ rest) ≡ training
+  training-of = ap trainingPart training-first ∙ take-at training (wordBits link ++ rest) trainingLength training-long
+
+  word-of : wordPart (headOf link ++ rest) ≡ wordBits link
+  word-of =
+      ap wordPart training-first
+      ∙ ap (take 32) (drop-at training (wordBits link ++ rest) trainingLength training-long)
+      ∙ take-at (wordBits link) rest 32 (length-highFirst 32 (wordOf link))
+
+  pub block-of : blockPart (headOf link ++ rest) ≡ rest
+  block-of = drop-at (headOf link) rest headLength (length-head-bits link)
+
+  -- a slot link's head is near itself
+  pub near-head : isSlotLink link ≡ true → NearHead (headOf link ++ rest) link 0
+  near-head slot =
+      let none = ap (differences (wordBits link)) word-of ∙ differences-self (wordBits link) in
+      record {
+        slot = slot;
+        long = omega (arith, length-append (headOf link) rest, length-head-bits link);
+        trained = training-of;
+        word = record { known = slot-has-word link slot; count = none; within = omega arith };
+      }
+
+-- ---- the parts of a burst are those that it is made of
 module _ (link : ℕ) (datagram : List ℕ) where
   abbrev image : List Bool
   image = imageOf (rowOf link) (blockOf (rowOf link) datagram)
 
-  training-first : burstOf link datagram ≡ training ++ (wordBits link ++ image)
-  unfolding burstOf headOf
-  training-first = append-assoc training (wordBits link) image
-
-  training-long : length training ≡ trainingLength
-  training-long = sym (length-map training byte) ∙ length-training
-
   pub training-of-burst : trainingPart (burstOf link datagram) ≡ training
-  training-of-burst = ap trainingPart training-first ∙ take-at training (wordBits link ++ image) trainingLength training-long
+  unfolding burstOf
+  training-of-burst = training-of link image
 
   pub word-of-burst : wordPart (burstOf link datagram) ≡ wordBits link
-  word-of-burst =
-      ap wordPart training-first
-      ∙ ap (take 32) (drop-at training (wordBits link ++ image) trainingLength training-long)
-      ∙ take-at (wordBits link) image 32 (length-highFirst 32 (wordOf link))
+  unfolding burstOf
+  word-of-burst = word-of link image
 
   pub block-of-burst : blockPart (burstOf link datagram) ≡ image
   unfolding burstOf
-  block-of-burst = drop-at (headOf link) image headLength (length-head-bits link)
+  block-of-burst = block-of link image

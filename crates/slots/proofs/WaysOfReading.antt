@@ -144,9 +144,12 @@ pub near-burst : (came : List Bool) (link wrong : ℕ) → Headed (map byte came
 near-burst came link wrong h s u n =
     let t = h .named .trained in
     record {
-      slot = h .slot;
+      head = record {
+        slot = h .slot;
+        long = omega (arith, t .long, length-map came byte);
+        trained = sym (part-back came trainingLength 0) ∙ t .same;
+        word = rw (part-back came 32 trainingLength) at (h .named .near);
+      };
       size = omega (arith, t .long, s .size, length-map came byte, length-drop headLength (map byte came));
-      trained = sym (part-back came trainingLength 0) ∙ t .same;
-      word = rw (part-back came 32 trainingLength) at (h .named .near);
       block = rw (rest-back came) at n;
     }

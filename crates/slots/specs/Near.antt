@@ -3,16 +3,21 @@
 use mathlib.Core.Path.{_≡_}
 use mathlib.Core.Bool.{Bool, true}
 use mathlib.Core.List.{List}
-use Prim.Native.Nat.{ℕ}
+use Prim.Native.Nat.{ℕ, _≤_}
 use lib.ListN.{length}
 use Rattle.blocks.specs.Near.{Near as NearBlock}
 use Rattle.links.specs.Rows.{rowOf}
 use Rattle.words.specs.Near.{Near as NearWord}
-use Rattle.slots.specs.Burst.{training, isSlotLink, burstLength, trainingPart, wordPart, blockPart}
+use Rattle.slots.specs.Burst.{training, headLength, trainingPart, wordPart, blockPart, isSlotLink, burstLength}
 
-pub record Near (came : List Bool) (link wordWrong : ℕ) (u : List Bool) : Type 0 where
+-- the head of what came is near that of a slot link
+pub record NearHead (came : List Bool) (link wordWrong : ℕ) : Type 0 where
   pub slot : isSlotLink link ≡ true
-  pub size : length came ≡ burstLength link
+  pub long : headLength ≤ length came
   pub trained : trainingPart came ≡ training
   pub word : NearWord (wordPart came) link wordWrong
+
+pub record Near (came : List Bool) (link wordWrong : ℕ) (u : List Bool) : Type 0 where
+  pub head : NearHead came link wordWrong
+  pub size : length came ≡ burstLength link
   pub block : NearBlock (rowOf link) (blockPart came) u
