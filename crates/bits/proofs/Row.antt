@@ -1,7 +1,7 @@
 -- A row of bits and its number: bit by bit, and back.
 -- Assumes nothing.
 use mathlib.Core.Path.{_≡_, refl, sym, ap, ap₂, _∙_}
-use mathlib.Core.Bool.{Bool, true, false}
+use mathlib.Core.Bool.{Bool, false}
 use mathlib.Core.List.{List, [], _∷_, map}
 use Prim.Native.Nat.{ℕ, zero, suc, _+_, _-_, _*_, _/_, _%_, _^_, _<_, _≤_}
 use native.Mathlib.Nat.{pow-suc, pow-succ', one-le-pow, add-mul, mul-assoc, pow-le-pow-right, zero-lt-suc, mod-lt, mod-eq-of-lt, add-zero, zero-add, add-suc, suc-add, sub-zero, suc-sub-suc}

@@ -3,10 +3,10 @@
 use mathlib.Core.Path.{_≡_, refl, sym, ap, _∙_}
 use mathlib.Core.Bool.{Bool, true, false, cond, _&&_}
 use mathlib.Core.List.{List, map}
-use mathlib.Core.Option.{Option, none, some}
+use mathlib.Core.Option.{none, some}
 use Prim.Native.Nat.{ℕ, _<_, _≤_}
 use lib.Dec.{T, leb}
-use lib.ListN.{length, length-map}
+use lib.ListN.{length}
 use borrow.Author.Tests.{le-leb, lt-leb}
 use Rattle.answers.specs.Numbers.{noBlock}
 use Rattle.answers.specs.Outcome.{Outcome, laid, Wrote}
@@ -19,7 +19,7 @@ use Rattle.bits.proofs.Bits.{bits-bytes}
 use Rattle.bits.proofs.Datagram.{length-bytesOf}
 use Rattle.distance.specs.Coding.{received}
 use Rattle.distance.specs.Valid.{allZero, bitsOver}
-use Rattle.distance.specs.Reading.{isNear, readByTrying, candidate, passing, accepted, readByCandidate}
+use Rattle.distance.specs.Reading.{readByTrying, candidate, passing, accepted, readByCandidate}
 use Rattle.distance.proofs.OneCandidate.{one-candidate}
 use Rattle.links.specs.declared.Row.{Row}
 use Rattle.links.specs.Good.{goodRow}

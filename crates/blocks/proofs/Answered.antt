@@ -1,13 +1,13 @@
 -- What is near is read, and what is written is near.
 -- Assumes nothing.
-use mathlib.Core.Path.{_≡_, refl, sym, ap, _∙_}
-use mathlib.Core.Bool.{Bool, true, false}
+use mathlib.Core.Path.{_≡_, ap, _∙_}
+use mathlib.Core.Bool.{Bool, true}
 use mathlib.Core.List.{List, map}
 use Prim.Native.Nat.{ℕ, _<_, _≤_}
 use native.Mathlib.Omega.{arith}
 use lib.Dec.{T}
 use lib.ListN.{length, length-map}
-use Rattle.bits.specs.Bits.{isOne, byte}
+use Rattle.bits.specs.Bits.{byte}
 use Rattle.bits.specs.Row.{differences, flip}
 use Rattle.bits.proofs.Bits.{bits-bytes, all-bytes}
 use Rattle.bits.proofs.Differences.{differences-self}

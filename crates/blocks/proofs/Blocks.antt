@@ -1,14 +1,14 @@
 -- The block of a datagram is valid, and holds the datagram, zero-filled.
 -- Assumes nothing.
-use mathlib.Core.Path.{_≡_, refl, sym, ap, _∙_}
-use mathlib.Core.Bool.{Bool, true, false}
-use mathlib.Core.List.{List, _++_}
+use mathlib.Core.Path.{_≡_, refl, _∙_}
+use mathlib.Core.Bool.{true, false}
+use mathlib.Core.List.{List}
 use Prim.Native.Nat.{ℕ, zero, suc, _-_, _*_, _≤_}
 use native.Mathlib.Omega.{arith}
 use lib.Dec.{T}
-use lib.ListN.{length, take, drop, replicate, length-append}
+use lib.ListN.{length, replicate, length-append}
 use lib.Seq.{take-at}
-use Rattle.bits.specs.Datagram.{bitsOf, filled, bytesOf, allBytes}
+use Rattle.bits.specs.Datagram.{bitsOf, filled, allBytes}
 use Rattle.bits.proofs.Datagram.{length-bitsOf, bytesOf-append, datagram-back}
 use Rattle.bits.proofs.Filled.{length-filled, drop-filled}
 use Rattle.bits.proofs.Row.{length-highFirst}

@@ -1,13 +1,13 @@
 -- Demand 3 over a link's row: valid blocks and their images are three apart, and reading is exact.
 -- Assumes nothing.
-use mathlib.Core.Path.{_≡_, refl, sym, ap, _∙_}
-use mathlib.Core.Bool.{Bool, true}
+use mathlib.Core.Path.{_≡_, sym}
+use mathlib.Core.Bool.{Bool}
 use mathlib.Core.List.{List}
-use mathlib.Core.Option.{Option, none, some}
-use Prim.Native.Nat.{ℕ, _<_, _≤_}
+use mathlib.Core.Option.{none, some}
+use Prim.Native.Nat.{_≤_}
 use lib.Dec.{T}
 use lib.ListN.{length}
-use Rattle.bits.specs.Row.{differences, flip}
+use Rattle.bits.specs.Row.{differences}
 use Rattle.distance.specs.Valid.{Near as CodingNear, valid}
 use Rattle.distance.specs.Reading.{readByTrying}
 use Rattle.distance.proofs.Exact as coding

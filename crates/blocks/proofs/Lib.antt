@@ -14,4 +14,3 @@ pub mod Sound
 pub mod Taking
 pub mod Unscrambled
 pub mod WaysOfReading
-pub mod WaysOfWriting

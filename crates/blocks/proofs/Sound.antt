@@ -1,15 +1,15 @@
 -- A good row's coding is sound, so that demand 3 holds of it, and its images are those of the document.
 -- Assumes nothing.
-use mathlib.Core.Path.{_≡_, refl, sym, ap, ap₂, _∙_}
+use mathlib.Core.Path.{_≡_, sym, ap, _∙_}
 use mathlib.Core.Bool.{Bool}
 use mathlib.Core.List.{List}
-use Prim.Native.Nat.{ℕ, zero, suc, _≤_}
+use Prim.Native.Nat.{ℕ}
 use native.Mathlib.Nat.{le-of-eq}
 use native.Mathlib.Omega.{arith}
 use lib.Dec.{T}
 use lib.ListN.{length}
 use Rattle.bits.specs.Xor.{xorRows}
-use Rattle.distance.specs.Coding.{Coding, Sound, coded as woven, image}
+use Rattle.distance.specs.Coding.{Sound, coded as woven, image}
 use Rattle.distance.proofs.Weave.{length-image as coding-length-image}
 use Rattle.links.specs.declared.Row.{Row}
 use Rattle.links.specs.Good.{goodRow}

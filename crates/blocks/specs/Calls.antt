@@ -1,5 +1,5 @@
 -- What writing and reading a block answer (document 01, "Numbers a caller gets back").
-use mathlib.Core.Bool.{Bool, cond, not}
+use mathlib.Core.Bool.{Bool, cond}
 use mathlib.Core.List.{List, [], map}
 use mathlib.Core.Option.{Option, none, some}
 use Prim.Native.Nat.{ℕ}
@@ -7,7 +7,8 @@ use lib.Dec.{eqb, ltb}
 use lib.ListN.{length}
 use Rattle.answers.specs.declared.Written.{Written}
 use Rattle.answers.specs.Numbers.{done, notOffered, wrongLength, noRoom, noBit, noBlock}
-use Rattle.answers.specs.Outcome.{Outcome, refusal, writing}
+use Rattle.answers.specs.Outcome.{Outcome}
+use Rattle.answers.specs.Task.{Task, writeTask}
 use Rattle.bits.specs.Bits.{isOne, byte, allBits}
 use Rattle.bits.specs.Row.{differences}
 use Rattle.distance.specs.Reading.{readByTrying}
@@ -19,13 +20,17 @@ use Rattle.blocks.specs.Block.{blockOf, imageOf, datagramOf}
 use Rattle.blocks.specs.Coding.{codingOf}
 
 -- ---- writing, in the order 1, 2, 3
-unfoldable pub writeBlock : ℕ → List ℕ → ℕ → Outcome Written
-writeBlock link datagram room =
-    cond (offered link)
-    (cond (ltb (bytesHeld (rowOf link)) (length datagram)) (refusal wrongLength)
-    (cond (ltb room (imageLength (rowOf link))) (refusal noRoom)
-    (writing (map byte (imageOf (rowOf link) (blockOf (rowOf link) datagram))))))
-    (refusal notOffered)
+abbrev pub blockTask : ℕ → List ℕ → Task
+blockTask link datagram = record {
+  offers = offered link;
+  held = bytesHeld (rowOf link);
+  datagram = datagram;
+  size = imageLength (rowOf link);
+  bits = map byte (imageOf (rowOf link) (blockOf (rowOf link) datagram));
+}
+
+abbrev pub writeBlock : ℕ → List ℕ → ℕ → Outcome Written
+writeBlock link datagram room = writeTask (blockTask link datagram) room
 
 -- ---- reading, in the order 1, 2, 3, 4, 7
 -- a reader that refuses: the number, and 0 for all else

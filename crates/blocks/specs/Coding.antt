@@ -1,8 +1,6 @@
 -- A link's row as the coding that demand 3 is shown of: the block's bits X at every clock, the parity bits behind them, the tail,
 -- and the scrambler's sequence over all.
-use mathlib.Core.Bool.{Bool}
-use mathlib.Core.List.{List}
-use Prim.Native.Nat.{ℕ, _*_}
+use Prim.Native.Nat.{_*_}
 use Rattle.distance.specs.Coding.{Coding}
 use Rattle.links.specs.declared.Row.{Row}
 use Rattle.links.specs.Sizes.{bytesHeld, imageLength}

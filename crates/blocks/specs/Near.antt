@@ -2,7 +2,7 @@
 use mathlib.Core.Path.{_≡_}
 use mathlib.Core.Bool.{Bool, true}
 use mathlib.Core.List.{List}
-use Prim.Native.Nat.{ℕ, _≤_}
+use Prim.Native.Nat.{_≤_}
 use Rattle.bits.specs.Row.{differences}
 use Rattle.distance.specs.Valid.{valid}
 use Rattle.links.specs.declared.Row.{Row}

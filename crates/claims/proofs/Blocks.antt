@@ -29,16 +29,14 @@ use Rattle.blocks.specs.declared.Block.{Block}
 use Rattle.blocks.specs.Block.{blockOf, imageOf, datagramOf, zeroFilled}
 use Rattle.blocks.specs.Coding.{codingOf}
 use Rattle.blocks.specs.Near.{Valid, Near}
-use Rattle.blocks.specs.Calls.{readBlock, refused as refusal, reading}
+use Rattle.blocks.specs.Calls.{blockTask, readBlock, refused as refusal, reading}
 use Rattle.blocks.proofs.Accepting.{length-datagram}
 use Rattle.blocks.proofs.Answered.{near-answered, near-itself, near-flipped}
 use Rattle.blocks.proofs.Blocks.{length-block, block-valid, datagram-in-block}
-use Rattle.blocks.proofs.Calls.{write-done}
 use Rattle.blocks.proofs.Sound.{length-image}
 use Rattle.blocks.proofs.WaysOfReading as r
-use Rattle.blocks.proofs.WaysOfWriting as w
 use Rattle.claims.specs.Calls.{WroteBlock, ReadBlock, BlockAnswer}
-use Rattle.claims.proofs.Endings.{status, count, block-ends, front}
+use Rattle.claims.proofs.Tasks.{Met, met, done-met}
 use Rattle.claims.proofs.Said.{said, told, held}
 
 abbrev read-status : Block → ℕ
@@ -139,52 +137,24 @@ module _ (link : ℕ) (o : offered link ≡ true) (came : List Bool) (size : len
       goes far (r.reads t s h a u n e) = absurd (far u (rw (bits-bytes came) at n))
 
 -- ---- what was written
-record WrittenImage (link : ℕ) (datagram new : List ℕ) (answer : Written) : Type 0 where
-  is-offered : offered link ≡ true
-  fits : length datagram ≤ bytesHeld (rowOf link)
-  long : answer .count ≡ imageLength (rowOf link)
-  bits : take (answer .count) new ≡ map byte (imageOf (rowOf link) (blockOf (rowOf link) datagram))
+long-image : (link : ℕ) → offered link ≡ true → (datagram : List ℕ) → length datagram ≤ bytesHeld (rowOf link) → length (imageOf (rowOf link) (blockOf (rowOf link) datagram)) ≡ imageLength (rowOf link)
+long-image link o datagram h = length-image (rowOf link) (good link o) (blockOf (rowOf link) datagram) (length-block (rowOf link) (good link o) datagram h)
 
-module _ (link : ℕ) (datagram old new : List ℕ) (answer : Written) (wr : WroteBlock link datagram old new answer) where
-  image-written : offered link ≡ true → length datagram ≤ bytesHeld (rowOf link) → imageLength (rowOf link) ≤ length old → WrittenImage link datagram new answer
-  image-written o h room =
-      let e = write-done link datagram (length old) o h room in
-      let row = rowOf link in
-      let u = blockOf row datagram in
-      record {
-        is-offered = o;
-        fits = h;
-        long =
-            told wr count e
-            ∙ length-map (imageOf row u) byte
-            ∙ length-image row (good link o) u (length-block row (good link o) datagram h);
-        bits = front (block-ends link datagram (length old)) wr ∙ ap (λ (x : Outcome Written). x .bytes) e;
-      }
-
-  -- an answer 0 is given only where the image is written
-  done-writes : answer .status ≡ done → WrittenImage link datagram new answer
-  done-writes z = goes (w.writing-goes link datagram (length old))
-    where
-      goes : w.Writing link datagram (length old) → WrittenImage link datagram new answer
-      goes (w.unoffered o e) = absurd (omega (arith, told wr status e))
-      goes (w.too-long o h e) = absurd (omega (arith, told wr status e))
-      goes (w.too-short o h s e) = absurd (omega (arith, told wr status e))
-      goes (w.writes o h s e) = image-written o h s
-
-  pub written : offered link ≡ true → length datagram ≤ bytesHeld (rowOf link) → imageLength (rowOf link) ≤ length old
-      → (answer .status ≡ done) × (answer .count ≡ imageLength (rowOf link)) × (take (answer .count) new ≡ map byte (imageOf (rowOf link) (blockOf (rowOf link) datagram)))
-  written o h room =
-      let i = image-written o h room in
-      (told wr status (write-done link datagram (length old) o h room), i .long, i .bits)
+pub written : (link : ℕ) (datagram old new : List ℕ) (answer : Written) → offered link ≡ true → length datagram ≤ bytesHeld (rowOf link) → imageLength (rowOf link) ≤ length old
+    → WroteBlock link datagram old new answer
+    → (answer .status ≡ done) × (answer .count ≡ imageLength (rowOf link)) × (take (answer .count) new ≡ map byte (imageOf (rowOf link) (blockOf (rowOf link) datagram)))
+written link datagram old new answer o h room wr =
+    let m = met (blockTask link datagram) old new answer wr o h room in
+    (m .status, m .long ∙ length-map (imageOf (rowOf link) (blockOf (rowOf link) datagram)) byte ∙ long-image link o datagram h, m .bits)
 
 -- ---- the way back: the block's image, as it was written or with one place inverted
 module _ (link : ℕ) (datagram old new : List ℕ) (answer : Written) (bytes : allBytes datagram ≡ true) (w : WroteBlock link datagram old new answer) (z : answer .status ≡ done)
     (old' new' : List ℕ) (answer' : Block) (room : bytesHeld (rowOf link) ≤ length old') where
-  i : WrittenImage link datagram new answer
-  i = done-writes link datagram old new answer w z
+  i : Met (blockTask link datagram) new answer
+  i = done-met (blockTask link datagram) old new answer w z
 
   row-good : T (goodRow (rowOf link))
-  row-good = good link (i .is-offered)
+  row-good = good link (i .offered)
 
   u : List Bool
   u = blockOf (rowOf link) datagram
@@ -195,7 +165,7 @@ module _ (link : ℕ) (datagram old new : List ℕ) (answer : Written) (bytes : 
 
   image-long : length (imageOf (rowOf link) u) ≡ imageLength (rowOf link)
   unfolding u
-  image-long = length-image (rowOf link) row-good u (length-block (rowOf link) row-good datagram (i .fits))
+  image-long = long-image link (i .offered) datagram (i .fits)
 
   filled : datagramOf (rowOf link) u ≡ zeroFilled (rowOf link) datagram
   unfolding u
@@ -205,7 +175,7 @@ module _ (link : ℕ) (datagram old new : List ℕ) (answer : Written) (bytes : 
   comes-back : (came : List Bool) (wrong : ℕ) → length came ≡ imageLength (rowOf link) → Near (rowOf link) came u → differences (imageOf (rowOf link) u) came ≡ wrong
       → ReadBlock link (map byte came) old' new' answer' → BlockAnswer (zeroFilled (rowOf link) datagram) wrong old' new' answer'
   comes-back came wrong size near counted wr =
-      rw (← filled, ← counted) (answered link (i .is-offered) came size old' new' answer' room wr u near)
+      rw (← filled, ← counted) (answered link (i .offered) came size old' new' answer' room wr u near)
 
   pub back : ReadBlock link (take (answer .count) new) old' new' answer' → BlockAnswer (zeroFilled (rowOf link) datagram) 0 old' new' answer'
   unfolding u
@@ -217,8 +187,8 @@ module _ (link : ℕ) (datagram old new : List ℕ) (answer : Written) (bytes : 
   unfolding u
   mended place h wr =
       comes-back (flip place (imageOf (rowOf link) u)) 1 (length-flip place (imageOf (rowOf link) u) ∙ image-long)
-      (near-flipped (rowOf link) row-good u right place (omega (arith, i .long)))
-      (differences-flip place (imageOf (rowOf link) u) (omega (arith, i .long, image-long)))
+      (near-flipped (rowOf link) row-good u right place (omega (arith, i .long, length-map (imageOf (rowOf link) u) byte, image-long)))
+      (differences-flip place (imageOf (rowOf link) u) (omega (arith, i .long, length-map (imageOf (rowOf link) u) byte)))
       (rw (i .bits, bits-bytes (imageOf (rowOf link) u)) at wr)
 
 -- ---- link 12's bits over

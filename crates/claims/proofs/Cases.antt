@@ -9,12 +9,13 @@ use lib.Dec.{ltb, ltb→lt, lit<, lit≤}
 use lib.ListN.{length, getD, length-map}
 use Rattle.answers.specs.Numbers.{wrongLength, noWord}
 use Rattle.answers.specs.Outcome.{refusal}
+use Rattle.answers.proofs.Task.{write-long}
 use Rattle.lists.specs.All.{all}
 use Rattle.lists.proofs.Line.{line}
 use Rattle.bits.specs.Bits.{byte}
 use Rattle.bits.specs.Row.{highFirst, differences}
-use Rattle.blocks.specs.Calls.{writeBlock}
-use Rattle.blocks.proofs.Calls.{write-long, read-length}
+use Rattle.blocks.specs.Calls.{blockTask, writeBlock}
+use Rattle.blocks.proofs.Calls.{read-length}
 use Rattle.links.specs.Rows.{rows, placeIn, offered, rowOf}
 use Rattle.links.specs.Sizes.{bytesHeld, imageLength}
 use Rattle.links.proofs.Table.{image-lengths}
@@ -55,7 +56,7 @@ unfolding rows placeIn offered
 offered-12 = refl
 
 too-long : (datagram : List ℕ) (room : ℕ) → length datagram ≡ 118 → writeBlock 12 datagram room ≡ refusal wrongLength
-too-long datagram room l = write-long 12 datagram room offered-12 (omega (arith, held-by-12))
+too-long datagram room l = write-long (blockTask 12 datagram) room offered-12 (omega (arith, held-by-12))
 
 -- N of the slot links
 images : (imageLength (rowOf 5) ≡ 394) × (imageLength (rowOf 6) ≡ 906) × (imageLength (rowOf 7) ≡ 1418)

@@ -3,26 +3,27 @@
 use mathlib.Core.Path.{refl, sym, _∙_}
 use native.Mathlib.Omega.{arith}
 use lib.ListN.{length}
+use Rattle.answers.proofs.Task as t
 use Rattle.links.specs.Rows.{rows, rowOf}
 use Rattle.links.proofs.Good.{good}
 use Rattle.turbo.proofs.Permutation.{position-in-range, position-injective, position-onto}
 use Rattle.words.proofs.Apart.{apart}
 use Rattle.words.proofs.Exact.{near-found, found-near, refused-far, far-refused}
 use Rattle.words.proofs.Ways as w
+use Rattle.blocks.specs.Calls.{blockTask}
 use Rattle.blocks.proofs.Exact as exact
 use Rattle.blocks.proofs.WaysOfReading as rb
-use Rattle.blocks.proofs.WaysOfWriting as wb
+use Rattle.slots.specs.Calls.{slotTask}
 use Rattle.slots.proofs.WaysOfReading as rs
-use Rattle.slots.proofs.WaysOfWriting as ws
 use Rattle.messages.proofs.Stepping.{step-goes, answer-inside, finished-exact, found-exact}
 use Rattle.messages.proofs.Tiling.{walks-tile, walks-fill}
 use Rattle.messages.proofs.Walk.{walk-ends, walks-one}
 use Rattle.claims.specs.Demands.{Demand1, Demand2, Demand3}
 use Rattle.claims.proofs.Blocks as blocks
-use Rattle.claims.proofs.Endings.{word-ends, block-ends, slot-ends, refused, behind, determined}
+use Rattle.claims.proofs.Endings.{word-ends, task-ends, refused, behind, determined}
 use Rattle.claims.proofs.Lines.{one-number}
 use Rattle.claims.proofs.Messages as messages
-use Rattle.claims.proofs.Numbers.{writes-word, reads-word, writes-block, reads-block, writes-slot, reads-slot, steps}
+use Rattle.claims.proofs.Numbers.{writes-word, reads-word, writes-task, reads-block, reads-slot, steps}
 use Rattle.claims.proofs.Slots as slots
 use Rattle.claims.proofs.Words as words
 
@@ -31,28 +32,28 @@ demand1 = record {
   one-number = one-number;
   write-word-number = λ n old new answer wr. writes-word n old new answer wr (w.writing-goes n (length old));
   read-word-number = λ row answer e. reads-word row answer e (w.reading-goes row);
-  write-block-number = λ link datagram old new answer wr. writes-block link datagram old new answer wr (wb.writing-goes link datagram (length old));
+  write-block-number = λ link datagram old new answer wr. writes-task (blockTask link datagram) old new answer wr (t.writing-goes (blockTask link datagram) (length old));
   read-block-number = λ link bits old new answer wr. reads-block link bits old new answer wr (rb.reading-goes link bits (length old));
-  write-slot-number = λ link datagram old new answer wr. writes-slot link datagram old new answer wr (ws.writing-goes link datagram (length old));
+  write-slot-number = λ link datagram old new answer wr. writes-task (slotTask link datagram) old new answer wr (t.writing-goes (slotTask link datagram) (length old));
   read-slot-number = λ burst old new answer wr. reads-slot burst old new answer wr (rs.reading-goes burst (length old));
   step-number = λ datagram position answer e. steps datagram position answer e (step-goes datagram position);
   write-word-refused = λ n old new answer wr. refused (word-ends n (length old)) wr;
   read-word-refused = words.refused;
-  write-block-refused = λ link datagram old new answer wr. refused (block-ends link datagram (length old)) wr;
+  write-block-refused = λ link datagram old new answer wr. refused (task-ends (blockTask link datagram) (length old)) wr;
   read-block-refused = blocks.refused;
-  write-slot-refused = λ link datagram old new answer wr. refused (slot-ends link datagram (length old)) wr;
+  write-slot-refused = λ link datagram old new answer wr. refused (task-ends (slotTask link datagram) (length old)) wr;
   read-slot-refused = slots.refused;
   step-refused = messages.refused;
   write-word-behind = λ n old new answer wr. behind (word-ends n (length old)) wr;
-  write-block-behind = λ link datagram old new answer wr. behind (block-ends link datagram (length old)) wr;
+  write-block-behind = λ link datagram old new answer wr. behind (task-ends (blockTask link datagram) (length old)) wr;
   read-block-behind = blocks.behind;
-  write-slot-behind = λ link datagram old new answer wr. behind (slot-ends link datagram (length old)) wr;
+  write-slot-behind = λ link datagram old new answer wr. behind (task-ends (slotTask link datagram) (length old)) wr;
   read-slot-behind = slots.behind;
   write-word-determined = λ n old old' new new' answer answer' l wr wr'. determined (word-ends n (length old)) wr (rw (← l) at wr');
   read-word-determined = λ row answer answer' e f. e ∙ sym f;
-  write-block-determined = λ link datagram old old' new new' answer answer' l wr wr'. determined (block-ends link datagram (length old)) wr (rw (← l) at wr');
+  write-block-determined = λ link datagram old old' new new' answer answer' l wr wr'. determined (task-ends (blockTask link datagram) (length old)) wr (rw (← l) at wr');
   read-block-determined = blocks.determined;
-  write-slot-determined = λ link datagram old old' new new' answer answer' l wr wr'. determined (slot-ends link datagram (length old)) wr (rw (← l) at wr');
+  write-slot-determined = λ link datagram old old' new new' answer answer' l wr wr'. determined (task-ends (slotTask link datagram) (length old)) wr (rw (← l) at wr');
   read-slot-determined = slots.determined;
   step-determined = λ datagram position answer answer' e f. e ∙ sym f;
 }
@@ -62,8 +63,8 @@ unfolding rows
 demand2 = record {
   links = refl;
   words-written = λ n old new answer h room wr. words.written n old new answer wr h room;
-  blocks-written = λ link datagram old new answer o h room wr. blocks.written link datagram old new answer wr o h room;
-  slots-written = λ link datagram old new answer o h room wr. slots.written link datagram old new answer wr o h room;
+  blocks-written = blocks.written;
+  slots-written = slots.written;
   interleaver-within = λ link o. position-in-range (rowOf link) (good link o);
   interleaver-once = λ link o. position-injective (rowOf link) (good link o);
   interleaver-onto = λ link o. position-onto (rowOf link) (good link o);

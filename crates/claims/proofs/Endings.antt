@@ -8,13 +8,11 @@ use lib.ListN.{take, drop}
 use Rattle.answers.specs.declared.Written.{Written}
 use Rattle.answers.specs.Numbers.{done, notOffered, wrongLength, noRoom}
 use Rattle.answers.specs.Outcome.{Outcome, Wrote, refusal, writing}
+use Rattle.answers.specs.Task.{Task, writeTask}
 use Rattle.answers.proofs.Determined as d
+use Rattle.answers.proofs.Task as t
 use Rattle.words.specs.Calls.{writeWord}
 use Rattle.words.proofs.Ways as w
-use Rattle.blocks.specs.Calls.{writeBlock}
-use Rattle.blocks.proofs.WaysOfWriting as b
-use Rattle.slots.specs.Calls.{writeSlot}
-use Rattle.slots.proofs.WaysOfWriting as s
 use Rattle.claims.proofs.Said.{told, held}
 
 abbrev pub status : Written → ℕ
@@ -27,7 +25,7 @@ pub data Ends (outcome : Outcome Written) : Type 0 where
   refuses : (number : ℕ) → (number ≡ done → ⊥) → outcome ≡ refusal number → Ends outcome
   writes : (bytes : List ℕ) → outcome ≡ writing bytes → Ends outcome
 
--- ---- the three writers
+-- ---- the writers: of link words, and of datagrams as blocks and as slot bursts
 pub word-ends : (n room : ℕ) → Ends (writeWord n room)
 word-ends n room = goes (w.writing-goes n room)
   where
@@ -36,23 +34,14 @@ word-ends n room = goes (w.writing-goes n room)
     goes (w.too-short h f e) = refuses noRoom (λ z. omega (arith, z)) e
     goes (w.writes h f e) = writes _ e
 
-pub block-ends : (link : ℕ) (datagram : List ℕ) (room : ℕ) → Ends (writeBlock link datagram room)
-block-ends link datagram room = goes (b.writing-goes link datagram room)
+pub task-ends : (task : Task) (room : ℕ) → Ends (writeTask task room)
+task-ends task room = goes (t.writing-goes task room)
   where
-    goes : b.Writing link datagram room → Ends (writeBlock link datagram room)
-    goes (b.unoffered o e) = refuses notOffered (λ z. omega (arith, z)) e
-    goes (b.too-long o h e) = refuses wrongLength (λ z. omega (arith, z)) e
-    goes (b.too-short o h f e) = refuses noRoom (λ z. omega (arith, z)) e
-    goes (b.writes o h f e) = writes _ e
-
-pub slot-ends : (link : ℕ) (datagram : List ℕ) (room : ℕ) → Ends (writeSlot link datagram room)
-slot-ends link datagram room = goes (s.writing-goes link datagram room)
-  where
-    goes : s.Writing link datagram room → Ends (writeSlot link datagram room)
-    goes (s.no-slot o e) = refuses notOffered (λ z. omega (arith, z)) e
-    goes (s.too-long o h e) = refuses wrongLength (λ z. omega (arith, z)) e
-    goes (s.too-short o h f e) = refuses noRoom (λ z. omega (arith, z)) e
-    goes (s.writes o h f e) = writes _ e
+    goes : t.Writing task room → Ends (writeTask task room)
+    goes (t.unoffered o e) = refuses notOffered (λ z. omega (arith, z)) e
+    goes (t.too-long o h e) = refuses wrongLength (λ z. omega (arith, z)) e
+    goes (t.too-short o h f e) = refuses noRoom (λ z. omega (arith, z)) e
+    goes (t.writes o h f e) = writes (task .bits) e
 
 -- ---- what follows of each
 module _ {outcome : Outcome Written} (ends : Ends outcome) where

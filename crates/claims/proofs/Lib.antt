@@ -7,4 +7,5 @@ pub mod Messages
 pub mod Numbers
 pub mod Said
 pub mod Slots
+pub mod Tasks
 pub mod Words

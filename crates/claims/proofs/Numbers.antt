@@ -8,17 +8,18 @@ use Prim.Native.Nat.{ℕ}
 use native.Mathlib.Omega.{arith}
 use lib.ListN.{length}
 use Rattle.answers.specs.declared.Written.{Written}
+use Rattle.answers.specs.Outcome.{Wrote}
+use Rattle.answers.specs.Task.{Task, writeTask}
+use Rattle.answers.proofs.Task as t
 use Rattle.answers.specs.Numbers.{done, notOffered}
 use Rattle.blocks.specs.declared.Block.{Block}
 use Rattle.blocks.proofs.WaysOfReading as rb
-use Rattle.blocks.proofs.WaysOfWriting as wb
 use Rattle.words.specs.declared.Word.{Word}
 use Rattle.words.specs.Calls.{readWord}
 use Rattle.words.proofs.Ways as w
 use Rattle.slots.specs.declared.Slot.{Slot}
 use Rattle.slots.specs.Burst.{blockPart, isSlotLink}
 use Rattle.slots.proofs.WaysOfReading as rs
-use Rattle.slots.proofs.WaysOfWriting as ws
 use Rattle.messages.specs.declared.Step.{Step}
 use Rattle.messages.specs.Step.{refused, stepMessage}
 use Rattle.messages.specs.Stepping.{Stepping, past, ends, spoils, breaks, finds}
@@ -60,15 +61,16 @@ module _ (row : List ℕ) (answer : Word) (e : calls.ReadWord row answer) where
   reads-word (w.reads l a n wrong near f) =
       inr (λ k. k l, inr (true-passes a, inr (λ k. omega (arith, k n (near .known), near .count, near .within), status-read f)))
 
--- ---- blocks
-module _ (link : ℕ) (datagram old new : List ℕ) (answer : Written) (wr : calls.WroteBlock link datagram old new answer) where
-  pub writes-block : wb.Writing link datagram (length old) → Given (calls.writeBlockLines link datagram (length old)) (answer .status)
+-- ---- datagrams, written as blocks and as slot bursts
+module _ (task : Task) (old new : List ℕ) (answer : Written) (wr : Wrote (writeTask task (length old)) old new answer) where
+  pub writes-task : t.Writing task (length old) → Given (calls.taskLines task (length old)) (answer .status)
   unfolding Given
-  writes-block (wb.unoffered o e) = inl (o, told wr written e)
-  writes-block (wb.too-long o h e) = inr (true-passes o, inl (h, told wr written e))
-  writes-block (wb.too-short o h s e) = inr (true-passes o, inr (λ k. omega arith, inl (s, told wr written e)))
-  writes-block (wb.writes o h s e) = inr (true-passes o, inr (λ k. omega arith, inr (λ k. omega arith, told wr written e)))
+  writes-task (t.unoffered o e) = inl (o, told wr written e)
+  writes-task (t.too-long o h e) = inr (true-passes o, inl (h, told wr written e))
+  writes-task (t.too-short o h s e) = inr (true-passes o, inr (λ k. omega arith, inl (s, told wr written e)))
+  writes-task (t.writes o h s e) = inr (true-passes o, inr (λ k. omega arith, inr (λ k. omega arith, told wr written e)))
 
+-- ---- blocks
 module _ (link : ℕ) (bits old new : List ℕ) (answer : Block) (wr : calls.ReadBlock link bits old new answer) where
   pub reads-block : rb.Reading link bits (length old) → Given (calls.readBlockLines link bits (length old)) (answer .status)
   unfolding Given
@@ -80,14 +82,6 @@ module _ (link : ℕ) (bits old new : List ℕ) (answer : Block) (wr : calls.Rea
   reads-block (rb.reads o s r a u n e) = inr (true-passes o, inr (λ k. k s, inr (λ k. omega arith, inr (true-passes a, inr (λ k. k u n, told wr read e)))))
 
 -- ---- slot bursts
-module _ (link : ℕ) (datagram old new : List ℕ) (answer : Written) (wr : calls.WroteSlot link datagram old new answer) where
-  pub writes-slot : ws.Writing link datagram (length old) → Given (calls.writeSlotLines link datagram (length old)) (answer .status)
-  unfolding Given
-  writes-slot (ws.no-slot o e) = inl (o, told wr written e)
-  writes-slot (ws.too-long o h e) = inr (true-passes o, inl (h, told wr written e))
-  writes-slot (ws.too-short o h s e) = inr (true-passes o, inr (λ k. omega arith, inl (s, told wr written e)))
-  writes-slot (ws.writes o h s e) = inr (true-passes o, inr (λ k. omega arith, inr (λ k. omega arith, told wr written e)))
-
 module _ (burst old new : List ℕ) (answer : Slot) (wr : calls.ReadSlot burst old new answer) where
   -- the lines of the training are passed, and those of the word
   past-training : rs.Trained burst → (behind : Lines) → Given behind (answer .status) → Given (calls.trainingLines burst behind) (answer .status)

@@ -28,16 +28,14 @@ use Rattle.words.proofs.Apart as words
 use Rattle.slots.specs.declared.Slot.{Slot}
 use Rattle.slots.specs.Burst.{trainingPart, wordPart, blockPart, isSlotLink, burstLength, burstOf}
 use Rattle.slots.specs.Near.{Near}
-use Rattle.slots.specs.Calls.{readSlot, refused as refusal, reading}
+use Rattle.slots.specs.Calls.{slotTask, readSlot, refused as refusal, reading}
 use Rattle.slots.proofs.Answered.{burst-answered}
-use Rattle.slots.proofs.Calls.{write-done}
 use Rattle.slots.proofs.Links.{slot-offered, slot-has-word}
 use Rattle.slots.proofs.Parts.{training-of-burst, word-of-burst, block-of-burst}
 use Rattle.slots.proofs.WaysOfReading as r
-use Rattle.slots.proofs.WaysOfWriting as w
 use Rattle.slots.proofs.Writing.{long-burst}
 use Rattle.claims.specs.Calls.{WroteSlot, ReadSlot, SlotAnswer}
-use Rattle.claims.proofs.Endings.{status, count, slot-ends, front}
+use Rattle.claims.proofs.Tasks.{Met, met, done-met}
 use Rattle.claims.proofs.Said.{said, told, held}
 
 abbrev read-status : Slot → ℕ
@@ -139,59 +137,36 @@ only-one came link link' wrong wrong' u u' n n' =
     )
 
 -- ---- what was written
-record WrittenBurst (link : ℕ) (datagram new : List ℕ) (answer : Written) : Type 0 where
-  slot : isSlotLink link ≡ true
-  fits : length datagram ≤ bytesHeld (rowOf link)
-  long : answer .count ≡ burstLength link
-  bits : take (answer .count) new ≡ map byte (burstOf link datagram)
-
-module _ (link : ℕ) (datagram old new : List ℕ) (answer : Written) (wr : WroteSlot link datagram old new answer) where
-  burst-written : isSlotLink link ≡ true → length datagram ≤ bytesHeld (rowOf link) → burstLength link ≤ length old → WrittenBurst link datagram new answer
-  burst-written o h room =
-      let e = write-done link datagram (length old) o h room in
-      record {
-        slot = o;
-        fits = h;
-        long = told wr count e ∙ long-burst link o datagram h;
-        bits = front (slot-ends link datagram (length old)) wr ∙ ap (λ (x : Outcome Written). x .bytes) e;
-      }
-
-  -- an answer 0 is given only where the burst is written
-  done-writes : answer .status ≡ done → WrittenBurst link datagram new answer
-  done-writes z = goes (w.writing-goes link datagram (length old))
-    where
-      goes : w.Writing link datagram (length old) → WrittenBurst link datagram new answer
-      goes (w.no-slot o e) = absurd (omega (arith, told wr status e))
-      goes (w.too-long o h e) = absurd (omega (arith, told wr status e))
-      goes (w.too-short o h s e) = absurd (omega (arith, told wr status e))
-      goes (w.writes o h s e) = burst-written o h s
-
-  pub written : isSlotLink link ≡ true → length datagram ≤ bytesHeld (rowOf link) → burstLength link ≤ length old
-      → (answer .status ≡ done) × (answer .count ≡ burstLength link) × (take (answer .count) new ≡ map byte (burstOf link datagram))
-  written o h room =
-      let i = burst-written o h room in
-      (told wr status (write-done link datagram (length old) o h room), i .long, i .bits)
+pub written : (link : ℕ) (datagram old new : List ℕ) (answer : Written) → isSlotLink link ≡ true → length datagram ≤ bytesHeld (rowOf link) → burstLength link ≤ length old
+    → WroteSlot link datagram old new answer
+    → (answer .status ≡ done) × (answer .count ≡ burstLength link) × (take (answer .count) new ≡ map byte (burstOf link datagram))
+written link datagram old new answer o h room wr =
+    let m = met (slotTask link datagram) old new answer wr o h room in
+    (m .status, m .long ∙ long-burst link o datagram h, m .bits)
 
 -- ---- the way back: the burst with up to seven places of its word and at most one of its block wrong
 module _ (link : ℕ) (datagram old new : List ℕ) (answer : Written) (bytes : allBytes datagram ≡ true) (w : WroteSlot link datagram old new answer) (z : answer .status ≡ done) where
-  i : WrittenBurst link datagram new answer
-  i = done-writes link datagram old new answer w z
+  i : Met (slotTask link datagram) new answer
+  i = done-met (slotTask link datagram) old new answer w z
+
+  burst-long : answer .count ≡ burstLength link
+  burst-long = i .long ∙ long-burst link (i .offered) datagram (i .fits)
 
   pub mended : (came : List Bool) → length came ≡ answer .count → trainingPart came ≡ trainingPart (burstOf link datagram)
       → differences (wordPart (burstOf link datagram)) (wordPart came) ≤ 7 → differences (blockPart (burstOf link datagram)) (blockPart came) ≤ 1
       → (old' new' : List ℕ) (answer' : Slot) → bytesHeld (rowOf link) ≤ length old' → ReadSlot (map byte came) old' new' answer'
       → SlotAnswer (zeroFilled (rowOf link) datagram) (differences (blockPart (burstOf link datagram)) (blockPart came)) link (differences (wordPart (burstOf link datagram)) (wordPart came)) old' new' answer'
   mended came size trained word block old' new' answer' room wr =
-      let row-good = good link (slot-offered link (i .slot)) in
+      let row-good = good link (slot-offered link (i .offered)) in
       let u = blockOf (rowOf link) datagram in
       let near : Near came link (differences (wordBits link) (wordPart came)) u = record {
         head = record {
-          slot = i .slot;
-          long = omega (arith, size, i .long);
+          slot = i .offered;
+          long = omega (arith, size, burst-long);
           trained = trained ∙ training-of-burst link datagram;
-          word = record { known = slot-has-word link (i .slot); count = refl; within = rw (word-of-burst link datagram) at word };
+          word = record { known = slot-has-word link (i .offered); count = refl; within = rw (word-of-burst link datagram) at word };
         };
-        size = size ∙ i .long;
+        size = size ∙ burst-long;
         block = record { right = block-valid (rowOf link) row-good datagram (i .fits); within = rw (block-of-burst link datagram) at block };
       } in
       rw (word-of-burst link datagram, block-of-burst link datagram, ← datagram-in-block (rowOf link) row-good datagram (i .fits) bytes)
@@ -203,5 +178,5 @@ module _ (link : ℕ) (datagram old new : List ℕ) (answer : Written) (bytes : 
       let burst = burstOf link datagram in
       let word = differences-self (wordPart burst) in
       let block = differences-self (blockPart burst) in
-      let size = sym (length-map burst byte) ∙ long-burst link (i .slot) datagram (i .fits) ∙ sym (i .long) in
+      let size = sym (length-map burst byte) ∙ sym (i .long) in
       rw (word, block) at (mended burst size refl (omega (arith, word)) (omega (arith, block)) old' new' answer' room (rw (i .bits) at wr))

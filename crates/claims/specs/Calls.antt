@@ -8,6 +8,7 @@ use lib.ListN.{length, take, drop}
 use Rattle.answers.specs.declared.Written.{Written}
 use Rattle.answers.specs.Numbers.{done, notOffered, wrongLength, noRoom, noBit, noTraining, noWord, noBlock, pastEnd, brokenMessage, brokenFill}
 use Rattle.answers.specs.Outcome.{Wrote}
+use Rattle.answers.specs.Task.{Task}
 use Rattle.bits.specs.Bits.{isOne, allBits}
 use Rattle.bits.specs.Row.{differences}
 use Rattle.links.specs.Rows.{offered, rowOf}
@@ -17,10 +18,10 @@ use Rattle.words.specs.Word.{wordBits}
 use Rattle.words.specs.Calls.{writeWord, readWord}
 use Rattle.blocks.specs.declared.Block.{Block}
 use Rattle.blocks.specs.Near.{Near}
-use Rattle.blocks.specs.Calls.{writeBlock, readBlock}
+use Rattle.blocks.specs.Calls.{blockTask, writeBlock, readBlock}
 use Rattle.slots.specs.declared.Slot.{Slot}
-use Rattle.slots.specs.Burst.{training, headLength, headPart, trainingPart, wordPart, blockPart, isSlotLink, burstLength}
-use Rattle.slots.specs.Calls.{writeSlot, readSlot}
+use Rattle.slots.specs.Burst.{training, headLength, headPart, trainingPart, wordPart, blockPart, isSlotLink}
+use Rattle.slots.specs.Calls.{slotTask, writeSlot, readSlot}
 use Rattle.messages.specs.declared.Step.{Step}
 use Rattle.messages.specs.Places.{Spoilt, Begins, Broken}
 use Rattle.messages.specs.Step.{stepMessage}
@@ -64,13 +65,20 @@ readWordLines row =
     (line noWord ((n : ℕ) → n < 64 → 7 < differences (wordBits n) (map isOne row))
     none))
 
--- link not offered; datagram longer than the link holds; buffer too short
-abbrev pub writeBlockLines : ℕ → List ℕ → ℕ → Lines
-writeBlockLines link datagram room =
-    line notOffered (offered link ≡ false)
-    (line wrongLength (bytesHeld (rowOf link) < length datagram)
-    (line noRoom (room < imageLength (rowOf link))
+-- a datagram: link not offered; longer than the link holds; buffer too short
+abbrev pub taskLines : Task → ℕ → Lines
+taskLines task room =
+    line notOffered (task .offers ≡ false)
+    (line wrongLength (task .held < length (task .datagram))
+    (line noRoom (room < task .size)
     none))
+
+-- as a block, the link being one of the twenty-two; as a slot burst, one of 5, 6, 7
+abbrev pub writeBlockLines : ℕ → List ℕ → ℕ → Lines
+writeBlockLines link datagram room = taskLines (blockTask link datagram) room
+
+abbrev pub writeSlotLines : ℕ → List ℕ → ℕ → Lines
+writeSlotLines link datagram room = taskLines (slotTask link datagram) room
 
 -- what follows once the link is known: not N bits; buffer too short; a byte neither 0 nor 1; no valid block's image within one
 abbrev pub restLines : ℕ → List ℕ → ℕ → Lines
@@ -86,14 +94,6 @@ abbrev pub readBlockLines : ℕ → List ℕ → ℕ → Lines
 readBlockLines link bits room =
     line notOffered (offered link ≡ false)
     (restLines link bits room)
-
--- slot burst not of link 5, 6, 7; datagram longer than the link holds; buffer too short
-abbrev pub writeSlotLines : ℕ → List ℕ → ℕ → Lines
-writeSlotLines link datagram room =
-    line notOffered (isSlotLink link ≡ false)
-    (line wrongLength (bytesHeld (rowOf link) < length datagram)
-    (line noRoom (room < burstLength link)
-    none))
 
 -- fewer than 86 bits; a non-bit in those 86; training differs
 abbrev pub trainingLines : List ℕ → Lines → Lines

@@ -1,41 +1,18 @@
--- When each call writes, answers and refuses, one law for each way.
+-- When reading a slot burst is answered and when it is refused, one law for each way.
 -- Assumes nothing.
 use mathlib.Core.Path.{_≡_}
 use mathlib.Core.Bool.{true, false}
-use mathlib.Core.List.{List, map}
+use mathlib.Core.List.{List}
 use Prim.Native.Nat.{ℕ, _<_, _≤_}
 use lib.ListN.{length}
 use borrow.Author.Tests.{lt-ltb, le-ltb, eq-eqb, ne-eqb}
-use Rattle.answers.specs.Numbers.{done, notOffered, wrongLength, noRoom, noBit, noTraining}
-use Rattle.answers.specs.Outcome.{refusal, writing}
-use Rattle.bits.specs.Bits.{byte, allBits}
+use Rattle.answers.specs.Numbers.{done, notOffered, wrongLength, noBit, noTraining}
+use Rattle.bits.specs.Bits.{allBits}
 use Rattle.blocks.specs.Calls.{readBlock}
-use Rattle.links.specs.Rows.{rowOf}
-use Rattle.links.specs.Sizes.{bytesHeld}
 use Rattle.words.specs.declared.Word.{Word}
 use Rattle.words.specs.Calls.{readWord, refused as refusedWord}
-use Rattle.slots.specs.Burst.{headLength, headPart, wordPart, blockPart, isSlotLink, burstLength, burstOf}
-use Rattle.slots.specs.Calls.{writeSlot, trainingWrong, slotWord, readHead, refused, joined, readSlot}
-
--- ---- writing
-module _ (link : ℕ) (datagram : List ℕ) (room : ℕ) where
-  pub write-no-slot : isSlotLink link ≡ false → writeSlot link datagram room ≡ refusal notOffered
-  unfolding writeSlot
-  write-no-slot o = rw o
-
-  module _ (o : isSlotLink link ≡ true) where
-    pub write-long : bytesHeld (rowOf link) < length datagram → writeSlot link datagram room ≡ refusal wrongLength
-    unfolding writeSlot
-    write-long h = rw (o, lt-ltb (bytesHeld (rowOf link)) (length datagram) h)
-
-    module _ (fits : length datagram ≤ bytesHeld (rowOf link)) where
-      pub write-short : room < burstLength link → writeSlot link datagram room ≡ refusal noRoom
-      unfolding writeSlot
-      write-short h = rw (o, le-ltb (bytesHeld (rowOf link)) (length datagram) fits, lt-ltb room (burstLength link) h)
-
-      pub write-done : burstLength link ≤ room → writeSlot link datagram room ≡ writing (map byte (burstOf link datagram))
-      unfolding writeSlot
-      write-done h = rw (o, le-ltb (bytesHeld (rowOf link)) (length datagram) fits, le-ltb room (burstLength link) h)
+use Rattle.slots.specs.Burst.{headLength, headPart, wordPart, blockPart, isSlotLink}
+use Rattle.slots.specs.Calls.{trainingWrong, slotWord, readHead, refused, joined, readSlot}
 
 -- ---- the word of the head
 module _ (word : Word) where

@@ -7,5 +7,4 @@ pub mod Parts
 pub mod Reading
 pub mod Symbols
 pub mod WaysOfReading
-pub mod WaysOfWriting
 pub mod Writing

@@ -10,6 +10,7 @@ use lib.ListN.{length, take, drop, length-map, length-append, length-drop}
 use Rattle.answers.specs.declared.Written.{Written}
 use Rattle.answers.specs.Written.{wrote}
 use Rattle.answers.specs.Outcome.{Outcome, laid, Wrote, writing}
+use Rattle.answers.proofs.Task.{write-done}
 use Rattle.answers.proofs.Writing.{writes}
 use Rattle.lists.specs.Over.{over}
 use Rattle.lists.proofs.Over.{over-length}
@@ -20,13 +21,11 @@ use Rattle.links.specs.Rows.{rowOf}
 use Rattle.links.specs.Sizes.{bytesHeld, imageLength}
 use Rattle.links.proofs.Good.{good}
 use Rattle.blocks.specs.Block.{blockOf, imageOf}
-use Rattle.blocks.specs.Calls.{writeBlock}
+use Rattle.blocks.specs.Calls.{blockTask, writeBlock}
 use Rattle.blocks.proofs.Blocks.{length-block}
-use Rattle.blocks.proofs.Calls.{write-done as block-done}
 use Rattle.blocks.proofs.Sound.{length-image}
 use Rattle.slots.specs.Burst.{headLength, isSlotLink, burstLength, headOf, burstOf}
-use Rattle.slots.specs.Calls.{writeSlot}
-use Rattle.slots.proofs.Calls.{write-done}
+use Rattle.slots.specs.Calls.{slotTask, writeSlot}
 use Rattle.slots.proofs.HeadLaid.{length-head}
 use Rattle.slots.proofs.Links.{slot-offered}
 use Rattle.slots.proofs.Lent.{part-laid}
@@ -59,7 +58,7 @@ module _ (link : ℕ) (o : isSlotLink link ≡ true) (datagram : List ℕ) (fits
         omega (arith, room, ap length (part-rest headLength mid), length-drop headLength mid, ap length head, over-length 0 (map byte (headOf link)) old (omega (arith, length-head link, room)))
 
     block-laid : writeBlock link datagram (length (behindHead mid)) ≡ writing image
-    block-laid = block-done link datagram (length (behindHead mid)) (slot-offered link o) fits enough
+    block-laid = write-done (blockTask link datagram) (length (behindHead mid)) (slot-offered link o) fits enough
 
     pub counted : block .count ≡ imageLength (rowOf link)
     counted = ap (λ (w : Written). w .count) (rest .answers) ∙ ap (λ (w : Outcome Written). w .answer .count) block-laid ∙ long-image
@@ -69,5 +68,5 @@ module _ (link : ℕ) (o : isSlotLink link ≡ true) (datagram : List ℕ) (fits
     written a =
         let second = rest .leaves ∙ ap (λ (w : Outcome Written). laid (w .bytes) (behindHead mid)) block-laid in
         let bytes = map byte (burstOf link datagram) in
-        writes bytes old _ (headLength + block .count) (write-done link datagram (length old) o fits room) (omega (arith, long-burst, counted)) a
+        writes bytes old _ (headLength + block .count) (write-done (slotTask link datagram) (length old) o fits room) (omega (arith, long-burst, counted)) a
         (part-laid (map byte (headOf link)) image old mid part headLength (length-head link) head second ∙ ap (λ (l : List ℕ). laid l old) (sym burst-parts))

@@ -5,8 +5,9 @@ use Prim.Native.Nat.{ℕ}
 use lib.Dec.{eqb, ltb}
 use lib.ListN.{length}
 use Rattle.answers.specs.declared.Written.{Written}
-use Rattle.answers.specs.Numbers.{done, notOffered, wrongLength, noRoom, noBit, noTraining}
-use Rattle.answers.specs.Outcome.{Outcome, refusal, writing}
+use Rattle.answers.specs.Numbers.{done, notOffered, wrongLength, noBit, noTraining}
+use Rattle.answers.specs.Outcome.{Outcome}
+use Rattle.answers.specs.Task.{Task, writeTask}
 use Rattle.bits.specs.Bits.{isOne, byte, allBits}
 use Rattle.bits.specs.Row.{differences}
 use Rattle.blocks.specs.declared.Block.{Block}
@@ -19,13 +20,17 @@ use Rattle.slots.specs.declared.Slot.{Slot}
 use Rattle.slots.specs.Burst.{training, headLength, headPart, trainingPart, wordPart, blockPart, isSlotLink, burstLength, burstOf}
 
 -- ---- writing, in the order 1, 2, 3
-unfoldable pub writeSlot : ℕ → List ℕ → ℕ → Outcome Written
-writeSlot link datagram room =
-    cond (isSlotLink link)
-    (cond (ltb (bytesHeld (rowOf link)) (length datagram)) (refusal wrongLength)
-    (cond (ltb room (burstLength link)) (refusal noRoom)
-    (writing (map byte (burstOf link datagram)))))
-    (refusal notOffered)
+abbrev pub slotTask : ℕ → List ℕ → Task
+slotTask link datagram = record {
+  offers = isSlotLink link;
+  held = bytesHeld (rowOf link);
+  datagram = datagram;
+  size = burstLength link;
+  bits = map byte (burstOf link datagram);
+}
+
+abbrev pub writeSlot : ℕ → List ℕ → ℕ → Outcome Written
+writeSlot link datagram room = writeTask (slotTask link datagram) room
 
 -- ---- reading: the head, in the order 2, 4, 5, 6, 1; then the rest as a block
 -- in how many bits the training of a burst differs

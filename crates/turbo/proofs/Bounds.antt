@@ -1,8 +1,7 @@
 -- The steps of π on a good row are small: nothing that the code computes on the way wraps.
 -- Assumes nothing.
-use mathlib.Core.Path.{_≡_}
 use Prim.Native.Nat.{ℕ, _+_, _-_, _*_, _/_, _%_, _^_, _≤_, _<_}
-use native.Mathlib.Nat.{mod-lt, mul-le-mul-right, one-mul, div-div-eq-div-mul, div-add-mod', div-le-self, le-trans, le-of-lt}
+use native.Mathlib.Nat.{mod-lt, mul-le-mul-right, div-div-eq-div-mul, div-add-mod', div-le-self, le-trans, le-of-lt}
 use native.Mathlib.Omega.{arith}
 use lib.Arith.{digits-lt}
 use lib.Dec.{T}

@@ -1,14 +1,10 @@
 -- The steps of π in document 01's letters, and how large each gets on a good row.
 -- Assumes nothing.
 use mathlib.Core.Path.{_≡_}
-use Prim.Native.Nat.{ℕ, _+_, _-_, _*_, _/_, _%_, _≤_, _<_}
-use native.Mathlib.Nat.{mod-lt, mul-le-mul-right, one-mul, div-div-eq-div-mul, div-add-mod', div-le-self, le-trans}
+use Prim.Native.Nat.{ℕ, _+_, _-_, _*_, _/_, _%_}
 use native.Mathlib.Omega.{arith}
-use lib.Arith.{digits-lt}
-use lib.Dec.{T}
 use Rattle.links.specs.declared.Row.{Row}
-use Rattle.links.specs.Good.{goodRow}
-use Rattle.links.proofs.Facts.{prime, sizes, block-is}
+use Rattle.links.proofs.Facts.{prime}
 use Rattle.turbo.specs.Interleaver.{position}
 
 -- a factor is at most the product

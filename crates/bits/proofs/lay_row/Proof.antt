@@ -1,10 +1,9 @@
 -- Bit by bit: what is left to lay at i is the row of the 32 - i lowest digits. Assumes nothing.
-use mathlib.Core.Path.{_≡_, refl}
 use mathlib.Core.List.{map}
 use Prim.Native.Nat.{_+_, _-_, _≤_}
 use native.Mathlib.Nat.{add-zero, add-assoc}
 use native.Mathlib.Omega.{arith}
-use lib.ListN.{length, length-map}
+use lib.ListN.{length-map}
 use borrow.Author.Needs.{needs}
 use Rattle.lists.specs.Over.{Laying}
 use Rattle.lists.proofs.Over.{start, fits, more, done}

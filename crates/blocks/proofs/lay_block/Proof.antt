@@ -1,13 +1,10 @@
 -- The block's bits, and then their image. Assumes nothing.
-use mathlib.Core.Path.{_≡_, ap, _∙_}
-use mathlib.Core.Bool.{Bool}
-use mathlib.Core.List.{List, map}
-use Prim.Native.Nat.{ℕ}
+use mathlib.Core.Path.{ap, _∙_}
+use mathlib.Core.List.{map}
 use borrow.Author.Needs.{needs}
-use Rattle.lists.specs.Over.{Lays}
-use Rattle.bits.specs.Bits.{isOne, byte}
+use Rattle.bits.specs.Bits.{isOne}
 use Rattle.bits.proofs.Bits.{bits-bytes, all-bytes}
-use Rattle.blocks.specs.Block.{blockOf, imageOf}
+use Rattle.blocks.specs.Block.{blockOf}
 use Rattle.blocks.proofs.lay_block.Statement.{statement}
 use Rattle.blocks.proofs.lay_block.Tie as tie
 

@@ -7,6 +7,7 @@ use native.Mathlib.Omega.{arith}
 use lib.Dec.{T}
 use lib.ListN.{length, getD, length-map}
 use borrow.Author.Needs.{needs}
+use Rattle.answers.proofs.Task.{write-unoffered, write-long, write-short, write-done}
 use Rattle.answers.proofs.Writing.{refuses, writes}
 use Rattle.lists.proofs.Over.{over-zero}
 use Rattle.bits.specs.Bits.{byte}
@@ -15,25 +16,17 @@ use Rattle.links.specs.Rows.{rows, noRow, place, rowOf}
 use Rattle.links.specs.Sizes.{bytesHeld, imageLength}
 use Rattle.links.specs.Good.{goodRow}
 use Rattle.links.proofs.Facts.{sizes}
-use Rattle.links.proofs.Good.{good}
 use Rattle.links.proofs.Search.{found-offered, found-none, found-row}
 use Rattle.blocks.specs.Block.{blockOf, imageOf}
+use Rattle.blocks.specs.Calls.{blockTask}
 use Rattle.blocks.proofs.Blocks.{length-block}
-use Rattle.blocks.proofs.Calls.{write-unoffered, write-long, write-short, write-done}
+use Rattle.blocks.proofs.FoundRow.{row-is, row-good}
 use Rattle.blocks.proofs.Sound.{length-image}
 use Rattle.blocks.proofs.write.Statement.{statement}
 use Rattle.blocks.proofs.write.Tie as tie
 
--- the row that was found is the link's, and good
-module _ (link : ℕ) {at : ℕ} (found : at ≡ place link) (inside : at < 22) {row : Row} (r : row ≡ getD rows at noRow) where
-  row-is : row ≡ rowOf link
-  row-is = r ∙ found-row link found
-
-  row-good : T (goodRow row)
-  row-good = rw row-is (good link (found-offered link found inside))
-
-  held-is : bytesHeld row ≡ bytesHeld (rowOf link)
-  held-is = ap bytesHeld row-is
+held-is : (link : ℕ) {at : ℕ} → at ≡ place link → at < 22 → {row : Row} → row ≡ getD rows at noRow → bytesHeld row ≡ bytesHeld (rowOf link)
+held-is link found inside r = ap bytesHeld (row-is link found inside r)
 
 -- N bits are laid
 count-is : (row : Row) → T (goodRow row) → (datagram : List ℕ) → length datagram ≤ bytesHeld row → {n : ℕ}
@@ -54,7 +47,7 @@ returns : tie.Need-returns
 returns c =
     let a = c .before .before .before .before .before .args in
     refuses 1 (a .out .now)
-    (write-unoffered (a .link) (a .datagram .now) (length (a .out .now)) (found-none (a .link) (c .before .before .place-of .ensures) (c .before .if1 .taken)))
+    (write-unoffered (blockTask (a .link) (a .datagram .now)) (length (a .out .now)) (found-none (a .link) (c .before .before .place-of .ensures) (c .before .if1 .taken)))
     (c .refuse .ensures)
 
 row-at-requires : tie.Need-row-at-requires
@@ -75,7 +68,7 @@ returns-2 c =
     let inside = c .before .before .before .before .if1 .left in
     let held = held-is (a .link) found inside (c .before .before .before .row-at .ensures) in
     refuses 2 (a .out .now)
-    (write-long (a .link) (a .datagram .now) (length (a .out .now)) (found-offered (a .link) found inside) (omega (arith, c .before .if2 .taken, c .before .before .bytes-held .ensures, held)))
+    (write-long (blockTask (a .link) (a .datagram .now)) (length (a .out .now)) (found-offered (a .link) found inside) (omega (arith, c .before .if2 .taken, c .before .before .bytes-held .ensures, held)))
     (c .refuse2 .ensures)
 
 image-length-at-requires : tie.Need-image-length-at-requires
@@ -92,7 +85,7 @@ returns-3 c =
     let held = held-is (a .link) found inside (c .before .before .before .before .before .row-at .ensures) in
     let size = c .before .before .image-length-at .ensures ∙ ap imageLength (found-row (a .link) found) in
     refuses 3 (a .out .now)
-    (write-short (a .link) (a .datagram .now) (length (a .out .now)) (found-offered (a .link) found inside)
+    (write-short (blockTask (a .link) (a .datagram .now)) (length (a .out .now)) (found-offered (a .link) found inside)
     (omega (arith, c .before .before .before .if2 .left, c .before .before .before .before .bytes-held .ensures, held))
     (omega (arith, c .before .if3 .taken, size)))
     (c .refuse3 .ensures)
@@ -133,7 +126,7 @@ returns-4 c =
     let laid = rw row at (c .before .before .before .write-row .ensures) in
     let bytes = map byte (imageOf (rowOf link) (blockOf (rowOf link) (a .datagram .now))) in
     writes bytes (a .out .now) (c .before .before .before .write-row .last .1 .1 .0) (c .before .before .before .write-row .result)
-    (write-done link (a .datagram .now) (length (a .out .now)) (found-offered link found inside)
+    (write-done (blockTask link (a .datagram .now)) (length (a .out .now)) (found-offered link found inside)
     (omega (arith, c .before .before .before .before .before .before .before .if2 .left, c .before .before .before .before .before .before .before .before .bytes-held .ensures, held))
     (omega (arith, c .before .before .before .before .before .if3 .left, size)))
     (sym (laid .0 ∙ zero-add (length bytes)))

@@ -1,7 +1,6 @@
 -- Every turn adds bytes, and never more than there is room for. Assumes nothing.
-use mathlib.Core.Path.{_≡_, refl, sym, _∙_}
+use mathlib.Core.Path.{_≡_}
 use Prim.Native.Nat.{_-_, _≤_}
-use native.Mathlib.Omega.{arith}
 use lib.ListN.{length}
 use borrow.Author.Needs.{needs}
 use Rattle.link_word_printer.proofs.read_line.Statement.{statement}

@@ -1,5 +1,4 @@
 -- The two tables hold the numbers and the primes of the table's rows. Assumes nothing.
-use native.Mathlib.Omega.{arith}
 use borrow.Author.Needs.{needs}
 use Rattle.links.specs.Rows.{rows}
 use Rattle.links.proofs.Places.{row-is}

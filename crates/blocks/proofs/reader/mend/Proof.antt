@@ -1,5 +1,4 @@
 -- The row closes; or no bit is told of; or the bit that is told of is inverted. Assumes nothing.
-use mathlib.Core.Path.{_≡_, sym}
 use native.Mathlib.Omega.{arith}
 use Rattle.bits.proofs.Bits.{bit-low}
 use Rattle.blocks.proofs.Mending.{mends-closed, mends-flipped, mends-lost}

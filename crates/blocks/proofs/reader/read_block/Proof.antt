@@ -1,5 +1,5 @@
 -- Its k bits, mended; and what is answered for the block that they make. Assumes nothing.
-use mathlib.Core.Path.{_≡_, _∙_}
+use mathlib.Core.Path.{_∙_}
 use mathlib.Core.List.{map}
 use lib.ListN.{length-map}
 use borrow.Author.Tests.{not-true, not-false}

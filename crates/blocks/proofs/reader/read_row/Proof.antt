@@ -1,5 +1,5 @@
 -- The longest block and the longest image have room for the row's. Assumes nothing.
-use mathlib.Core.Path.{_≡_, sym, _∙_}
+use mathlib.Core.Path.{sym, _∙_}
 use native.Mathlib.Omega.{arith}
 use Rattle.links.proofs.Facts.{sizes}
 use Rattle.blocks.proofs.Lent.{scratch-enough, length-lent}

@@ -1,12 +1,12 @@
 -- Byte by byte: what is left to lay at i is what was there from i on. Assumes nothing.
-use mathlib.Core.Path.{_≡_, refl, _∙_}
-use Prim.Native.Nat.{_+_, _-_, _≤_}
+use mathlib.Core.Path.{_≡_, _∙_}
+use Prim.Native.Nat.{_-_, _≤_}
 use native.Mathlib.Numerals.{add-one}
 use native.Mathlib.Omega.{arith}
-use lib.ListN.{length, getD, drop, drop-of-length-le}
+use lib.ListN.{length, drop, drop-of-length-le}
 use lib.Seq.{drop-cons}
 use Rattle.lists.specs.Over.{Laying}
-use Rattle.lists.proofs.Over.{start, fits, more, done, over-all}
+use Rattle.lists.proofs.Over.{start, more, done, over-all}
 use borrow.Author.Needs.{needs}
 use Rattle.blocks.proofs.received.copy.Statement.{statement}
 use Rattle.blocks.proofs.received.copy.Tie as tie

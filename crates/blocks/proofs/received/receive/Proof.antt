@@ -1,7 +1,5 @@
 -- Copied, unscrambled, and its X taken out. Assumes nothing.
-use mathlib.Core.Path.{_≡_, refl, sym, _∙_}
-use native.Mathlib.Omega.{arith}
-use lib.ListN.{length}
+use mathlib.Core.Path.{_∙_}
 use Rattle.blocks.proofs.Unscrambled.{plain-bits, received-is}
 use borrow.Author.Needs.{needs}
 use Rattle.blocks.proofs.received.receive.Statement.{statement}

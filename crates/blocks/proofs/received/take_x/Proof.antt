@@ -1,8 +1,8 @@
 -- Clock by clock. Assumes nothing.
-use mathlib.Core.Path.{_≡_, refl, sym, ap, _∙_}
+use mathlib.Core.Path.{_≡_, sym, ap, _∙_}
 use mathlib.Core.Logic.{⊎-elim}
 use mathlib.Core.List.{map}
-use Prim.Native.Nat.{_-_, _+_, _%_, _≤_}
+use Prim.Native.Nat.{_-_, _+_, _%_}
 use native.Mathlib.Omega.{arith}
 use lib.ListN.{length}
 use Rattle.links.specs.Patterns.{patternOf, total}

@@ -1,11 +1,11 @@
 -- Clock by clock: what is left to lay at c is how many bits the clocks from c on pass on. Assumes nothing.
-use mathlib.Core.Path.{_≡_, refl, _∙_}
-use mathlib.Core.List.{List, [], map}
-use Prim.Native.Nat.{_+_, _-_, _≤_}
+use mathlib.Core.Path.{_≡_, _∙_}
+use mathlib.Core.List.{map}
+use Prim.Native.Nat.{_-_, _≤_}
 use native.Mathlib.Omega.{arith}
-use lib.ListN.{length, getD, drop, length-map}
+use lib.ListN.{length, drop, length-map}
 use Rattle.lists.specs.Over.{Laying}
-use Rattle.lists.proofs.Over.{start, fits, more, done, over-all}
+use Rattle.lists.proofs.Over.{start, more, done, over-all}
 use Rattle.links.specs.Patterns.{total}
 use Rattle.blocks.proofs.Taking.{totals-more, totals-done}
 use borrow.Author.Needs.{needs}

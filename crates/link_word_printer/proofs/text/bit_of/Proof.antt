@@ -1,5 +1,5 @@
 -- Character by character. Assumes nothing.
-use borrow.Author.Tests.{eq-eqb, ne-eqb}
+use borrow.Author.Tests.{ne-eqb}
 use Rattle.link_word_printer.specs.Line.{bitOf}
 use Rattle.link_word_printer.proofs.text.bit_of.Statement.{statement}
 use Rattle.link_word_printer.proofs.text.bit_of.Tie as tie
