@@ -2,11 +2,11 @@
 -- Assumes nothing.
 use mathlib.Core.Path.{_≡_, refl, sym, ap, ap₂, _∙_}
 use mathlib.Core.Bool.{Bool, true, false}
-use mathlib.Core.List.{List, [], _∷_, _++_, map, map-append, append-assoc}
+use mathlib.Core.List.{List, [], _∷_, _++_, map, append-assoc}
 use Prim.Native.Nat.{ℕ, zero, suc, _+_, _-_, _*_, _/_, _%_, _^_, _≤_, _<_}
 use native.Mathlib.Nat.{zero-add, zero-div, mod-lt, pow-le-pow-right, zero-lt-suc}
 use native.Mathlib.Omega.{arith}
-use borrow.Author.Tests.{ltb-true, lt-ltb}
+use borrow.Author.Tests.{ltb-true}
 use lib.Dec.{ltb}
 use lib.ListN.{length, getD, take, drop, replicate, take-append-drop, length-append, length-replicate, length-drop, length-take, List·getD-append, List·getD-eq-default, replicate-append-replicate}
 use lib.Seq.{take-at, drop-at, take-append-le, take-take, length-take-le, getD-append-add, drop-drop}
@@ -15,9 +15,9 @@ use Rattle.lists.proofs.Parts.{drop-take, map-take, map-drop}
 use Rattle.bits.specs.Bits.{isOne, byte}
 use Rattle.bits.specs.Row.{highFirst, number}
 use Rattle.bits.specs.Datagram.{allBytes, bitsOf, filled, bytesOf}
-use Rattle.bits.proofs.Bits.{byte-isOne, bits-bytes, both-true}
+use Rattle.bits.proofs.Bits.{byte-isOne, both-true}
 use Rattle.bits.proofs.Row.{length-highFirst, highFirst-at, number-highFirst, highFirst-number, number-lt}
-use Rattle.bits.proofs.Filled.{filled-fits, take-filled, drop-filled}
+use Rattle.bits.proofs.Filled.{filled-fits, take-filled}
 
 -- ---- bytes to bits
 pub length-bitsOf : (datagram : List ℕ) → length (bitsOf datagram) ≡ length datagram * 8
@@ -70,10 +70,6 @@ filled-bitsOf m datagram h =
     ∙ ap (λ (l : List Bool). bitsOf datagram ++ l) (sym (zero-bytes (m - length datagram)))
     ∙ sym (bitsOf-append datagram (replicate (m - length datagram) 0))
 
--- the bits over behind m bytes are zero
-pub bits-over : (m n : ℕ) (datagram : List ℕ) → length datagram ≤ m → drop (m * 8) (filled n (bitsOf datagram)) ≡ replicate (n - m * 8) false
-bits-over m n datagram h = drop-filled (m * 8) n (bitsOf datagram) (omega (arith, length-bitsOf datagram))
-
 -- ---- bits to bytes
 pub length-bytesOf : (m : ℕ) (row : List Bool) → length (bytesOf m row) ≡ m
 unfolding bytesOf
@@ -92,21 +88,12 @@ bytesOf-take (suc m) row =
 pub bytesOf-append : (m : ℕ) (row rest : List Bool) → m * 8 ≤ length row → bytesOf m (row ++ rest) ≡ bytesOf m row
 bytesOf-append m row rest h = sym (bytesOf-take m (row ++ rest)) ∙ ap (bytesOf m) (take-append-le (m * 8) row rest h) ∙ bytesOf-take m row
 
--- a row at the start of a buffer
-pub bytesOf-row : (m : ℕ) (row : List Bool) (rest : List ℕ) → m * 8 ≤ length row → bytesOf m (map isOne (map byte row ++ rest)) ≡ bytesOf m row
-bytesOf-row m row rest h = rw (map-append isOne (map byte row) rest, bits-bytes row) (bytesOf-append m row (map isOne rest) h)
-
 pub bytesOf-filled : (m n : ℕ) (row : List Bool) → m * 8 ≤ n → bytesOf m (filled n row) ≡ bytesOf m (filled (m * 8) row)
 bytesOf-filled m n row h = sym (bytesOf-take m (filled n row)) ∙ ap (bytesOf m) (take-filled (m * 8) n row h)
 
 -- what they make are bytes
 pub byte-small : (row : List Bool) → number (take 8 row) < 256
 byte-small row = omega (arith, number-lt (take 8 row), pow-le-pow-right {n = 2} (zero-lt-suc 1) {i = length (take 8 row)} {j = 8} (simp length-take (omega arith)))
-
-pub bytesOf-bytes : (m : ℕ) (row : List Bool) → allBytes (bytesOf m row) ≡ true
-unfolding bytesOf all
-bytesOf-bytes zero row = refl
-bytesOf-bytes (suc m) row = rw (lt-ltb (number (take 8 row)) 256 (byte-small row)) (bytesOf-bytes m (drop 8 row))
 
 -- byte by byte: what is left to lay at j begins with the byte that the row's next eight bits make
 pub bytes-more : (m j : ℕ) (row : List ℕ) → j < m
@@ -166,13 +153,3 @@ datagram-back m n datagram e h l =
     bytesOf-filled m n (bitsOf datagram) l
     ∙ ap (bytesOf m) (filled-bitsOf m datagram h)
     ∙ rw long at (bytesOf-bitsOf whole (fill-bytes datagram (m - length datagram) e))
-
--- and back again: n bits whose bits over are zero are those of the m bytes that they make
-pub row-back : (m n : ℕ) (row : List Bool) → length row ≡ n → m * 8 ≤ n → drop (m * 8) row ≡ replicate (n - m * 8) false → filled n (bitsOf (bytesOf m row)) ≡ row
-row-back m n row e h over =
-    let front = take (m * 8) row in
-    let long : length front ≡ m * 8 = length-take-le (m * 8) row (omega arith) in
-    ap (λ (bytes : List ℕ). filled n (bitsOf bytes)) (sym (bytesOf-take m row))
-    ∙ ap (filled n) (bitsOf-bytesOf m front long)
-    ∙ filled-fits n front (omega arith)
-    ∙ rw (long, ← over) (take-append-drop (m * 8) row)

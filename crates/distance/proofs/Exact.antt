@@ -5,23 +5,22 @@ use mathlib.Core.Logic.{_↔_}
 use mathlib.Core.Bool.{Bool, true, false}
 use mathlib.Core.List.{List}
 use mathlib.Core.Option.{Option, none, some, Option·none-ne-some}
-use Prim.Native.Nat.{ℕ, _<_, _≤_}
+use Prim.Native.Nat.{_≤_}
 use native.Mathlib.Nat.{le-trans}
 use native.Mathlib.Omega.{arith}
 use lib.Dec.{ltb}
 use lib.ListN.{length}
 use borrow.Author.Tests.{leb-true, le-leb, ltb-true, ltb-false}
-use Rattle.bits.specs.Row.{differences, flip}
+use Rattle.bits.specs.Row.{differences}
 use Rattle.bits.proofs.Bits.{both-true}
-use Rattle.bits.proofs.Differences.{differences-self, differences-comm, differences-triangle}
-use Rattle.bits.proofs.Flip.{length-flip, differences-flip}
+use Rattle.bits.proofs.Differences.{differences-comm, differences-triangle}
 use Rattle.distance.specs.Coding.{Coding, Sound, image, received}
 use Rattle.distance.specs.Valid.{valid, Near}
 use Rattle.distance.specs.Reading.{isNear, standsFor, readByTrying}
 use Rattle.distance.proofs.Apart.{three-apart}
 use Rattle.distance.proofs.Trying.{tried-passes, tried-found}
 use Rattle.distance.proofs.Valid.{valid-length, valid-closes}
-use Rattle.distance.proofs.Weave.{length-image, length-received, differences-came, differences-image}
+use Rattle.distance.proofs.Weave.{length-received, differences-came, differences-image}
 
 module _ (c : Coding) (sound : Sound c) where
   -- ---- three apart
@@ -89,15 +88,3 @@ module _ (c : Coding) (sound : Sound c) where
         decided : ((a : List Bool) → Near c came a → ⊥) → (o : Option (List Bool)) → readByTrying c came ≡ o → readByTrying c came ≡ none
         decided far none e = e
         decided far (some a) e = absurd (far a (exact a .0 e))
-
-  -- ---- what was sent is read back, also with any one place inverted
-  pub read-back : (a : List Bool) → valid c a ≡ true → readByTrying c (image c a) ≡ some a
-  read-back a v =
-      exact (image c a) (length-image c sound a (valid-length c a v)) a .1
-      (record { right = v; within = omega (arith, differences-self (image c a)) })
-
-  pub mended : (a : List Bool) (i : ℕ) → valid c a ≡ true → i < c .size → readByTrying c (flip i (image c a)) ≡ some a
-  mended a i v h =
-      let size = length-image c sound a (valid-length c a v) in
-      exact (flip i (image c a)) (length-flip i (image c a) ∙ size) a .1
-      (record { right = v; within = omega (arith, differences-flip i (image c a) (omega arith)) })

@@ -1,7 +1,6 @@
 -- One candidate and one distance test answer what trying every place answers.
 -- Assumes nothing.
 use mathlib.Core.Path.{_≡_, refl, sym, _∙_}
-use mathlib.Core.Logic.{_↔_}
 use mathlib.Core.Bool.{Bool}
 use mathlib.Core.List.{List}
 use mathlib.Core.Option.{Option, none, some, Option·none-ne-some}
@@ -37,9 +36,6 @@ module _ (c : Coding) (sound : Sound c) (came : List Bool) (size : length came �
       some-passing (accepted c came) (candidate (received c came)) a
       (candidate-found (received c came) a (omega (arith, length-received c sound came size, sound .short)) (w .0) (valid-closes c a (n .right)) (w .1))
       (simp (valid-over c a (n .right), le-leb (differences (image c a) came) 1 (n .within)))
-
-  pub candidate-exact : (a : List Bool) → (readByCandidate c came ≡ some a) ↔ Near c came a
-  candidate-exact a = (candidate-near a, near-candidate a)
 
   pub one-candidate : readByTrying c came ≡ readByCandidate c came
   one-candidate = decided (readByTrying c came) (readByCandidate c came) refl refl

@@ -4,7 +4,7 @@ use mathlib.Core.Path.{_≡_, sym, ap, _∙_}
 use Prim.Native.Nat.{ℕ, _+_, _*_, _/_, _%_, _≤_, _<_}
 use native.Mathlib.Nat.{mul-assoc}
 use native.Mathlib.Omega.{arith}
-use lib.Dec.{T, eqb, ltb, leb, eqb→eq, ltb→lt, leb→le}
+use lib.Dec.{T, eqb→eq, ltb→lt, leb→le}
 use lib.ListN.{length, getD, take, length-take}
 use lib.Seq.{getD-take}
 use Rattle.lists.proofs.Every.{every-at, together-at}

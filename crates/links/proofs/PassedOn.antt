@@ -2,16 +2,12 @@
 -- Assumes nothing.
 use mathlib.Core.Path.{_≡_}
 use mathlib.Core.List.{List, [], _∷_, _++_}
-use Prim.Native.Nat.{ℕ, zero, suc, _+_, _-_, _≤_, zero-le}
+use Prim.Native.Nat.{ℕ, zero, suc, _+_, _-_, _≤_}
 use native.Mathlib.Nat.{suc-add}
 use native.Mathlib.Omega.{arith}
-use lib.Dec.{T}
 use lib.ListN.{getD, take, drop, take-append-drop}
-use Rattle.links.specs.declared.Row.{Row}
-use Rattle.links.specs.Patterns.{patternOf, flagsAt, total}
-use Rattle.links.specs.Sizes.{passedOn, tailBits, imageLength}
-use Rattle.links.specs.Good.{goodRow}
-use Rattle.links.proofs.GoodFlags.{Pattern, pattern, clock-at}
+use Rattle.links.specs.Patterns.{flagsAt, total}
+use Rattle.links.specs.Sizes.{passedOn, tailBits}
 
 -- on m clocks and n more
 pub passed-on-split : (clocks : List (List ℕ)) (s m n : ℕ) → passedOn clocks s (m + n) ≡ passedOn clocks s m + passedOn clocks (s + m) n
@@ -39,16 +35,6 @@ pub total-x : (flags : List ℕ) → getD flags 0 0 ≡ 1 → total flags ≡ su
 unfolding total
 total-x [] e = absurd (omega arith)
 total-x (x ∷ flags) e = omega arith
-
--- X passes at every clock, so the block is no longer than its image
-pub passed-on-least : (clocks : List (List ℕ)) → Pattern clocks → (s n : ℕ) → n ≤ passedOn clocks s n
-unfolding passedOn
-passed-on-least clocks p s zero = zero-le
-passed-on-least clocks p s (suc n) = omega (arith, total-x (flagsAt clocks s) (clock-at clocks p s .x), passed-on-least clocks p (suc s) n)
-
-pub block-within : (row : Row) → T (goodRow row) → row .k ≤ imageLength row
-unfolding imageLength
-block-within row t = omega (arith, passed-on-least (patternOf (row .pattern)) (pattern row t) 0 (row .k))
 
 -- of a tail in two parts
 tail-bits-append : (first second : List (List ℕ)) → tailBits (first ++ second) ≡ tailBits first + tailBits second

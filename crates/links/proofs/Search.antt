@@ -1,15 +1,15 @@
 -- A link's row is searched for in the table row by row.
 -- Assumes nothing.
 use mathlib.Core.Path.{_≡_, refl, ap, _∙_}
-use mathlib.Core.Bool.{Bool, true, false, cond}
-use mathlib.Core.List.{List, [], _∷_}
-use Prim.Native.Nat.{ℕ, suc, _+_, _≤_, _<_, zero-le}
+use mathlib.Core.Bool.{true, false, cond}
+use mathlib.Core.List.{List}
+use Prim.Native.Nat.{ℕ, suc, _+_, _≤_, _<_}
 use native.Mathlib.Numerals.{add-one}
 use native.Mathlib.Omega.{arith}
 use lib.Dec.{eqb}
 use lib.ListN.{length, getD, drop, drop-of-length-le}
 use lib.Seq.{drop-cons}
-use borrow.Author.Tests.{ltb-true, ltb-false, lt-ltb, le-ltb, eqb-true, eq-eqb, ne-eqb}
+use borrow.Author.Tests.{ltb-true, lt-ltb, le-ltb, eq-eqb, ne-eqb}
 use Rattle.links.specs.declared.Row.{Row}
 use Rattle.links.specs.Rows.{rows, noRow, placeIn, place, offered, rowOf}
 
@@ -28,26 +28,6 @@ pub place-end : (rs : List Row) (link i : ℕ) → length rs ≤ i → placeIn (
 unfolding placeIn
 place-end rs link i h = rw (drop-of-length-le rs {i = i} h)
 
--- ---- what is found
-within : (b : Bool) (p n : ℕ) → p ≤ n → cond b 0 (suc p) ≤ suc n
-within true p n h = zero-le
-within false p n h = omega arith
-
-pub place-within : (rs : List Row) (link : ℕ) → placeIn rs link ≤ length rs
-unfolding placeIn
-place-within [] link = zero-le
-place-within (r ∷ rs) link = within (eqb (r .link) link) (placeIn rs link) (length rs) (place-within rs link)
-
-linked : (r : Row) (rs : List Row) (link p : ℕ) (b : Bool) → eqb (r .link) link ≡ b → (p < length rs → getD rs p noRow .link ≡ link)
-    → cond b 0 (suc p) < suc (length rs) → getD (r ∷ rs) (cond b 0 (suc p)) noRow .link ≡ link
-linked r rs link p true e behind h = eqb-true (r .link) link e
-linked r rs link p false e behind h = behind (omega arith)
-
-pub place-link : (rs : List Row) (link : ℕ) → placeIn rs link < length rs → getD rs (placeIn rs link) noRow .link ≡ link
-unfolding placeIn
-place-link [] link h = absurd (omega arith)
-place-link (r ∷ rs) link h = linked r rs link (placeIn rs link) (eqb (r .link) link) refl (place-link rs link) h
-
 -- ---- offered links
 pub row-count : length rows ≡ 22
 unfolding rows
@@ -61,18 +41,9 @@ pub place-offered : (link : ℕ) → place link < length rows → offered link �
 unfolding offered
 place-offered link h = lt-ltb (place link) (length rows) h
 
-pub unoffered-place : (link : ℕ) → offered link ≡ false → length rows ≤ place link
-unfolding offered
-unoffered-place link e = ltb-false (place link) (length rows) e
-
 pub place-unoffered : (link : ℕ) → length rows ≤ place link → offered link ≡ false
 unfolding offered
 place-unoffered link h = le-ltb (place link) (length rows) h
-
--- the row found is the link's
-pub row-link : (link : ℕ) → offered link ≡ true → rowOf link .link ≡ link
-unfolding rowOf
-row-link link e = place-link rows link (offered-place link e)
 
 -- ---- what a caller learns from the place that was found
 module _ (link : ℕ) {at : ℕ} (found : at ≡ place link) where

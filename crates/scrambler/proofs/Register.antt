@@ -3,7 +3,7 @@
 use mathlib.Core.Path.{_≡_, sym, ap, ap₂, _∙_}
 use mathlib.Core.Bool.{Bool, false, xor}
 use mathlib.Core.List.{List}
-use Prim.Native.Nat.{ℕ, zero, suc, _+_, _*_, _/_, _%_, _^_, _<_}
+use Prim.Native.Nat.{ℕ, suc, _+_, _*_, _/_, _%_, _^_, _<_}
 use native.Mathlib.Nat.{div-one}
 use native.Mathlib.Omega.{arith}
 use lib.Bits.{bitXor, xor-mod}
@@ -14,7 +14,7 @@ use Rattle.bits.specs.Row.{number}
 use Rattle.bits.proofs.Bits.{byte-isOne}
 use Rattle.bits.proofs.Xor.{⊕-is, ⊕-bits}
 use Rattle.bits.proofs.Row.{length-highFirst, highFirst-at, take-highFirst, number-first, number-highFirst, highFirst-number, number-lt}
-use Rattle.scrambler.specs.Scrambler.{cells, output, shifted, after}
+use Rattle.scrambler.specs.Scrambler.{cells, output, shifted}
 
 -- the two lowest digits are cells 14 and 15
 pub output-word : (r : ℕ) → bitXor (r / 2) r % 2 ≡ byte (output (cells r))
@@ -39,11 +39,6 @@ shifted-word r h =
 pub length-shifted : (row : List Bool) → length row ≡ 15 → length (shifted row) ≡ 15
 unfolding shifted
 length-shifted row e = ap suc (length-take-le 14 row (omega arith))
-
-pub length-after : (n : ℕ) (row : List Bool) → length row ≡ 15 → length (after n row) ≡ 15
-unfolding after
-length-after zero row e = e
-length-after (suc n) row e = length-after n (shifted row) (length-shifted row e)
 
 -- fifteen cells are the cells of their number, and it is below 2^15
 pub cells-number : (row : List Bool) → length row ≡ 15 → cells (number row) ≡ row

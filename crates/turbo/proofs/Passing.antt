@@ -2,15 +2,13 @@
 -- Assumes nothing.
 use mathlib.Core.Path.{_≡_, refl, sym, ap, ap₂, _∙_}
 use mathlib.Core.Bool.{Bool}
-use mathlib.Core.List.{List, [], _∷_, _++_, map, map-append, append-nil, append-assoc}
+use mathlib.Core.List.{List, [], _∷_, _++_, map, map-append, append-assoc}
 use Prim.Native.Nat.{ℕ, zero, suc, _+_, _≤_, _<_}
 use native.Mathlib.Numerals.{add-one}
 use native.Mathlib.Omega.{arith}
 use lib.ListN.{length, getD, take, drop, replicate, length-append, length-replicate, drop-of-length-le}
 use lib.Seq.{drop-cons}
 use Rattle.links.specs.Patterns.{total}
-use Rattle.links.specs.Good.{ofFirst, ofSecond}
-use Rattle.links.proofs.GoodFlags.{Silent}
 use Rattle.turbo.specs.Coded.{passed}
 
 -- how much passes depends on the flags only
@@ -48,12 +46,6 @@ unfolding passed
 passed-x [] x bits e = absurd (omega arith)
 passed-x (flag ∷ flags) x bits e = rw e
 
--- a bit that does not pass is passed over
-pub passed-over : (flags : List ℕ) (x : Bool) (bits : List Bool) → getD flags 0 0 ≡ 0 → passed flags (x ∷ bits) ≡ passed (drop 1 flags) bits
-unfolding passed
-passed-over [] x bits e = refl
-passed-over (flag ∷ flags) x bits e = rw e
-
 of-nothing : {A : Type 0} (flags : List ℕ) → _≡_ {A = List A} (passed flags []) []
 unfolding passed
 of-nothing [] = refl
@@ -68,20 +60,3 @@ passed-split (suc n) (flag ∷ flags) [] = sym (of-nothing (drop n flags))
 passed-split (suc n) (flag ∷ flags) (b ∷ bits) =
     ap (_++_ (replicate flag b)) (passed-split n flags bits)
     ∙ sym (append-assoc (replicate flag b) (passed (take n flags) (take n bits)) (passed (drop n flags) (drop n bits)))
-
-passed-none : (flags : List ℕ) (bits : List Bool) → ((i : ℕ) → getD flags i 0 ≡ 0) → passed flags bits ≡ []
-unfolding passed
-passed-none [] bits none = refl
-passed-none (flag ∷ flags) [] none = refl
-passed-none (flag ∷ flags) (b ∷ bits) none = rw (none 0) (passed-none flags bits (λ i. none (suc i)))
-
--- a clock of the ending passes on of one encoder what its three flags pass on
-pub first-alone : (flags : List ℕ) (bits : List Bool) → Silent ofSecond flags → passed flags bits ≡ passed (ofFirst flags) (take 3 bits)
-first-alone flags bits silent =
-    let front = passed (ofFirst flags) (take 3 bits) in
-    passed-split 3 flags bits ∙ ap (_++_ front) (passed-none (ofSecond flags) (drop 3 bits) (silent .none)) ∙ append-nil front
-
-pub second-alone : (flags : List ℕ) (bits : List Bool) → Silent ofFirst flags → passed flags bits ≡ passed (ofSecond flags) (drop 3 bits)
-second-alone flags bits silent =
-    passed-split 3 flags bits
-    ∙ ap (λ (front : List Bool). front ++ passed (ofSecond flags) (drop 3 bits)) (passed-none (ofFirst flags) (take 3 bits) (silent .none))
