@@ -46,6 +46,12 @@ unfolding passed
 passed-x [] x bits e = absurd (omega arith)
 passed-x (flag ∷ flags) x bits e = rw e
 
+-- a bit that does not pass is passed over
+pub passed-over : (flags : List ℕ) (x : Bool) (bits : List Bool) → getD flags 0 0 ≡ 0 → passed flags (x ∷ bits) ≡ passed (drop 1 flags) bits
+unfolding passed
+passed-over [] x bits e = refl
+passed-over (flag ∷ flags) x bits e = rw e
+
 of-nothing : {A : Type 0} (flags : List ℕ) → _≡_ {A = List A} (passed flags []) []
 unfolding passed
 of-nothing [] = refl

@@ -6,23 +6,35 @@ use mathlib.Core.List.{List, [], _∷_, _++_, map}
 use Prim.Native.Nat.{ℕ, zero, suc}
 use native.Mathlib.Omega.{arith}
 use lib.Dec.{T}
-use lib.ListN.{length, drop, length-drop}
+use lib.ListN.{length, getD, take, drop, length-drop}
+use lib.Seq.{getD-drop, drop-drop}
 use Rattle.links.specs.declared.Row.{Row}
 use Rattle.links.specs.Patterns.{patternOf, tailOf, flagsAt, total}
 use Rattle.links.specs.Good.{goodRow}
 use Rattle.links.proofs.GoodFlags.{Clock, Pattern, clock-at, pattern}
-use Rattle.turbo.specs.Encoder.{Register, start, next}
+use Rattle.turbo.specs.Encoder.{Register, start, next, y0, y1}
 use Rattle.turbo.specs.Interleaver.{interleaved}
 use Rattle.turbo.specs.Coded.{six, passed, ending, codedFrom, coded}
 use Rattle.bits.specs.Weave.{weave}
 use Rattle.turbo.specs.Parity.{parityFrom, countsFrom, registerAfter, parityOf, countsOf, tailBitsOf}
 use Rattle.turbo.proofs.Interleaved.{length-interleaved}
-use Rattle.turbo.proofs.Passing.{length-passed, passed-x}
+use Rattle.turbo.proofs.Passing.{length-passed, passed-x, passed-over, passed-split}
 
 -- a clock passes on its X, and behind it what its other flags pass on
 pub clock-passes : (flags : List ℕ) → Clock flags → (a b : Register) (x y : Bool) → passed flags (six a b x y) ≡ x ∷ passed (drop 1 flags) (drop 1 (six a b x y))
 unfolding six
 clock-passes flags clock a b x y = passed-x flags x (drop 1 (six a b x y)) (clock .x)
+
+-- these are parity bits: X' does not pass
+pub parity-alone : (flags : List ℕ) → Clock flags → (a b : Register) (x y : Bool)
+    → passed (drop 1 flags) (drop 1 (six a b x y)) ≡ passed (take 2 (drop 1 flags)) (y0 a x ∷ y1 a x ∷ []) ++ passed (drop 4 flags) (y0 b y ∷ y1 b y ∷ [])
+unfolding six
+parity-alone flags clock a b x y =
+    let second = y0 b y ∷ y1 b y ∷ [] in
+    let x' : getD (drop 3 flags) 0 0 ≡ 0 = getD-drop 3 flags 0 0 ∙ clock .x' in
+    passed-split 2 (drop 1 flags) (drop 1 (six a b x y))
+    ∙ ap (_++_ (passed (take 2 (drop 1 flags)) (y0 a x ∷ y1 a x ∷ [])))
+    (ap (λ (flags : List ℕ). passed flags (y ∷ second)) (drop-drop 2 1 flags) ∙ passed-over (drop 3 flags) y second x' ∙ ap (λ (flags : List ℕ). passed flags second) (drop-drop 1 3 flags))
 
 -- how much that is depends on the flags only
 pub parity-length : (flags : List ℕ) → Clock flags → (a b : Register) (x y : Bool) → length (passed (drop 1 flags) (drop 1 (six a b x y))) ≡ total (drop 1 flags)
