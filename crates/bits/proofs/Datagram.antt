@@ -10,7 +10,7 @@ use borrow.Author.Tests.{ltb-true}
 use lib.Dec.{ltb}
 use lib.ListN.{length, getD, take, drop, replicate, take-append-drop, length-append, length-replicate, length-drop, length-take, List·getD-append, List·getD-eq-default, replicate-append-replicate}
 use lib.Seq.{take-at, drop-at, take-append-le, take-take, length-take-le, getD-append-add, drop-drop}
-use Rattle.lists.specs.All.{all}
+use Rattle.lists.specs.Every.{every}
 use Rattle.lists.proofs.Parts.{drop-take, map-take, map-drop}
 use Rattle.bits.specs.Bits.{isOne, byte}
 use Rattle.bits.specs.Row.{highFirst, number}
@@ -114,7 +114,7 @@ part-bits at row = let eight : at + 8 - at ≡ 8 = omega arith in rw eight (map-
 
 -- ---- there and back
 pub bytesOf-bitsOf : (datagram : List ℕ) → allBytes datagram ≡ true → bytesOf (length datagram) (bitsOf datagram) ≡ datagram
-unfolding bitsOf bytesOf all
+unfolding bitsOf bytesOf every
 bytesOf-bitsOf [] e = refl
 bytesOf-bitsOf (b ∷ datagram) e =
     let p = both-true (ltb b 256) (allBytes datagram) e in
@@ -132,13 +132,13 @@ bitsOf-bytesOf (suc m) row e =
     ap₂ _++_ first (bitsOf-bytesOf m (drop 8 row) (simp length-drop (omega arith))) ∙ take-append-drop 8 row
 
 zeros-bytes : (k : ℕ) → allBytes (replicate k 0) ≡ true
-unfolding all
+unfolding every
 zeros-bytes zero = refl
 zeros-bytes (suc k) = zeros-bytes k
 
 -- zero bytes behind bytes
 pub fill-bytes : (datagram : List ℕ) (k : ℕ) → allBytes datagram ≡ true → allBytes (datagram ++ replicate k 0) ≡ true
-unfolding all
+unfolding every
 fill-bytes [] k e = zeros-bytes k
 fill-bytes (b ∷ datagram) k e =
     let p = both-true (ltb b 256) (allBytes datagram) e in

@@ -3,7 +3,7 @@ use mathlib.Core.Bool.{Bool, true, false}
 use mathlib.Core.List.{List}
 use Prim.Native.Nat.{ℕ}
 use lib.Dec.{eqb, leb}
-use Rattle.lists.specs.All.{all}
+use Rattle.lists.specs.Every.{every}
 
 -- the bit that a byte holds
 abbrev pub isOne : ℕ → Bool
@@ -16,4 +16,4 @@ byte false = 0
 
 -- every byte is 0 or 1
 abbrev pub allBits : List ℕ → Bool
-allBits bytes = all (λ x. leb x 1) bytes
+allBits bytes = every (λ x. leb x 1) bytes

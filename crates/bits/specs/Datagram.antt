@@ -4,12 +4,12 @@ use mathlib.Core.List.{List, [], _∷_, _++_}
 use Prim.Native.Nat.{ℕ, zero, suc}
 use lib.Dec.{ltb}
 use lib.ListN.{take, drop, replicate}
-use Rattle.lists.specs.All.{all}
+use Rattle.lists.specs.Every.{every}
 use Rattle.bits.specs.Row.{highFirst, number}
 
 -- every element is a byte
 abbrev pub allBytes : List ℕ → Bool
-allBytes datagram = all (λ x. ltb x 256) datagram
+allBytes datagram = every (λ x. ltb x 256) datagram
 
 unfoldable pub bitsOf : List ℕ → List Bool
 bitsOf [] = []

@@ -11,7 +11,7 @@ use lib.Dec.{eqb}
 use lib.ListN.{length, getD, drop, length-drop}
 use lib.Seq.{getD-drop}
 use borrow.Author.Tests.{eqb-true, ne-eqb}
-use Rattle.lists.proofs.All.{all-each, each-all, all-fails}
+use Rattle.lists.proofs.Every.{every-each, each-every, every-fails}
 use Rattle.messages.specs.Fill.{isFill, onlyFill}
 use Rattle.messages.specs.Places.{byteAt, Fill, FillFrom, Spoilt, totalAt}
 use Rattle.messages.specs.Step.{declared}
@@ -46,16 +46,16 @@ module _ (datagram : List ℕ) (position : ℕ) where
   only-from e place h l =
       let k = place - position in
       let here : getD (drop position datagram) k 0 ≡ byteAt datagram place = getD-drop position datagram k 0 ∙ ap (byteAt datagram) (omega arith) in
-      subst Fill here (fill-is _ (all-each isFill (drop position datagram) e k (omega (arith, length-drop position datagram))))
+      subst Fill here (fill-is _ (every-each isFill 0 (drop position datagram) e k (omega (arith, length-drop position datagram))))
 
   pub from-only : FillFrom datagram position → onlyFill (drop position datagram) ≡ true
   from-only f =
-      each-all isFill (drop position datagram)
+      each-every isFill 0 (drop position datagram)
       (λ k l. ap isFill (getD-drop position datagram k 0) ∙ is-fill _ (f (position + k) (omega arith) (omega (arith, length-drop position datagram))))
 
   pub spoilt-at : position < length datagram → Fill (byteAt datagram position) → onlyFill (drop position datagram) ≡ false → Spoilt datagram position
   spoilt-at h f e =
-      let at = all-fails isFill (drop position datagram) e in
+      let at = every-fails isFill 0 (drop position datagram) e in
       record {
         inside = h;
         fill = f;

@@ -8,7 +8,7 @@ use native.Mathlib.Omega.{arith}
 use lib.ListN.{length, getD, drop}
 use borrow.Author.Tests.{lt-ltb, le-ltb}
 use Rattle.answers.specs.Numbers.{pastEnd, brokenMessage, brokenFill}
-use Rattle.lists.proofs.All.{all-each}
+use Rattle.lists.proofs.Every.{every-each}
 use Rattle.messages.specs.declared.Step.{Step}
 use Rattle.messages.specs.Fill.{isFill, onlyFill}
 use Rattle.messages.specs.Step.{refused, finished, message, declared, fillAt, messageAt, stepAt, stepMessage}
@@ -59,7 +59,7 @@ module _ (offset : ℕ) (left : List ℕ) where
 pub step-only : (offset : ℕ) (left : List ℕ) → onlyFill left ≡ true → stepAt offset left ≡ finished
 unfolding stepAt
 step-only offset [] e = refl
-step-only offset (b ∷ rest) e = rw (all-each isFill (b ∷ rest) e 0 (omega arith)) (fill-only (b ∷ rest) e)
+step-only offset (b ∷ rest) e = rw (every-each isFill 0 (b ∷ rest) e 0 (omega arith)) (fill-only (b ∷ rest) e)
 
 pub step-end : (offset : ℕ) (left : List ℕ) → length left ≡ 0 → stepAt offset left ≡ finished
 unfolding stepAt

@@ -3,11 +3,11 @@ use mathlib.Core.Bool.{Bool, _||_}
 use mathlib.Core.List.{List}
 use Prim.Native.Nat.{ℕ}
 use lib.Dec.{eqb}
-use Rattle.lists.specs.All.{all}
+use Rattle.lists.specs.Every.{every}
 
 abbrev pub isFill : ℕ → Bool
 isFill b = eqb b 0 || eqb b 81
 
 -- only fill from here on
 abbrev pub onlyFill : List ℕ → Bool
-onlyFill left = all isFill left
+onlyFill left = every isFill left

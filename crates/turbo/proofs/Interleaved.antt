@@ -7,14 +7,11 @@ use Prim.Native.Nat.{ℕ, zero, suc, _+_, _-_, _<_, _≤_}
 use native.Mathlib.Nat.{sub-zero}
 use native.Mathlib.Numerals.{add-one}
 use native.Mathlib.Omega.{arith}
-use lib.Dec.{T}
 use lib.ListN.{length, getD}
 use Rattle.bits.specs.Bits.{isOne, byte, allBits}
+use Rattle.bits.proofs.Bits.{byte-at}
 use Rattle.links.specs.declared.Row.{Row}
-use Rattle.links.specs.Good.{goodRow}
 use Rattle.turbo.specs.Interleaver.{position, interleavedFrom, interleaved}
-use Rattle.turbo.proofs.BitAt.{byte-at}
-use Rattle.turbo.proofs.Permutation.{position-in-range}
 
 length-from : (row : Row) (u : List Bool) (s n : ℕ) → length (interleavedFrom row u s n) ≡ n
 unfolding interleavedFrom
@@ -31,14 +28,13 @@ inputsFrom row u s = map byte (interleavedFrom row (map isOne u) (s + 1) (row .k
 pub inputs-all : (row : Row) (u : List ℕ) → map byte (interleaved row (map isOne u)) ≡ inputsFrom row u 0
 inputs-all row u = rw sub-zero
 
-pub inputs-more : (row : Row) (u : List ℕ) (s : ℕ) → T (goodRow row) → length u ≡ row .k → allBits u ≡ true → s < row .k
-    → inputsFrom row u s ≡ getD u (position row (s + 1) - 1) 0 ∷ inputsFrom row u (s + 1)
+pub inputs-more : (row : Row) (u : List ℕ) (s : ℕ) → allBits u ≡ true → s < row .k → inputsFrom row u s ≡ getD u (position row (s + 1) - 1) 0 ∷ inputsFrom row u (s + 1)
 unfolding interleavedFrom
-inputs-more row u s good l all-bits h =
+inputs-more row u s bits h =
     let left : row .k - s ≡ suc (row .k - (s + 1)) = omega arith in
     rw (left, add-one (s + 1))
     (ap (λ (x : ℕ). x ∷ map byte (interleavedFrom row (map isOne u) (suc (s + 1)) (row .k - (s + 1))))
-    (byte-at u all-bits (position row (s + 1) - 1) (omega (arith, position-in-range row good (s + 1)))))
+    (byte-at u bits (position row (s + 1) - 1)))
 
 pub inputs-done : (row : Row) (u : List ℕ) (s : ℕ) → row .k ≤ s → inputsFrom row u s ≡ []
 unfolding interleavedFrom

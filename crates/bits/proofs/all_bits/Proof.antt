@@ -4,7 +4,7 @@ use Prim.Native.Nat.{_≤_, _-_}
 use lib.ListN.{length, drop}
 use borrow.Author.Needs.{needs}
 use borrow.Author.Tests.{le-leb, lt-leb}
-use Rattle.lists.proofs.All.{all-more, all-done}
+use Rattle.lists.proofs.Every.{every-more, every-done}
 use Rattle.bits.specs.Bits.{allBits}
 use Rattle.bits.proofs.all_bits.Statement.{statement}
 use Rattle.bits.proofs.all_bits.Tie as tie
@@ -24,7 +24,7 @@ shared-slice-read-if1 c = search needs
 returns : tie.Need-returns Inv-loop μ-loop
 returns c =
     let at = c .before .before .before .loop in
-    sym (at .inv .2 ∙ all-more _ _ (at .i) (search needs) ∙ simp (lt-leb _ _ (c .if1 .taken)))
+    sym (at .inv .2 ∙ every-more _ 0 _ (at .i) (search needs) ∙ simp (lt-leb _ _ (c .if1 .taken)))
 
 add-i : tie.Need-add-i Inv-loop μ-loop
 add-i c = search needs
@@ -35,10 +35,10 @@ loop-less c = search needs
 loop-again : tie.Need-loop-again Inv-loop μ-loop
 loop-again c =
     let at = c .before .before .before .loop in
-    (search needs, search needs, at .inv .2 ∙ all-more _ _ (at .i) (search needs) ∙ simp (le-leb _ _ (c .if1 .left)))
+    (search needs, search needs, at .inv .2 ∙ every-more _ 0 _ (at .i) (search needs) ∙ simp (le-leb _ _ (c .if1 .left)))
 
 returns-2 : tie.Need-returns-2 Inv-loop μ-loop
-returns-2 c = sym (c .before .loop .inv .2 ∙ all-done _ _ (c .before .loop .i) (search needs))
+returns-2 c = sym (c .before .loop .inv .2 ∙ every-done _ _ (c .before .loop .i) (search needs))
 
 pub all-bits-spec : {M : Type 1} → statement M
 all-bits-spec =

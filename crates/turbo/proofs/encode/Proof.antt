@@ -3,7 +3,7 @@ use mathlib.Core.Path.{_≡_, _∙_}
 use Prim.Native.Nat.{_-_}
 use native.Mathlib.Omega.{arith}
 use lib.ListN.{length}
-use Rattle.turbo.proofs.BitAt.{bit-small}
+use Rattle.bits.proofs.Bits.{bit-low}
 use Rattle.turbo.proofs.AtClock.{AtClock, at-start, place-below, clock-fits, at-next, ending-fits, at-end}
 use borrow.Author.Needs.{needs}
 use Rattle.turbo.proofs.encode.Statement.{statement}
@@ -40,10 +40,9 @@ array-copy-out-flags c =
 
 six-requires : tie.Need-six-requires Inv-loop μ-loop
 six-requires c κs =
-    let a = c .before .before .before .before .before .before .before .before .args in
     let p = c .before .before .before .before .before .before .before .before .pre .0 in
     let l = c .before .before .before .before .loop in
-    (l .inv .1 .small-a, l .inv .1 .small-b, bit-small (a .u .now) (p .bits-u) (l .s) (omega arith), bit-small (a .v .now) (p .bits-v) (l .s) (omega (arith, p .same)))
+    (l .inv .1 .small-a, l .inv .1 .small-b, bit-low _ (p .bits-u) (l .s), bit-low _ (p .bits-v) (l .s))
 
 lay-requires : tie.Need-lay-requires Inv-loop μ-loop
 lay-requires c κs =
@@ -56,13 +55,13 @@ next-requires : tie.Need-next-requires Inv-loop μ-loop
 next-requires c κs =
     let p = c .before .before .before .before .before .before .before .before .before .before .before .before .before .pre .0 in
     let l = c .before .before .before .before .before .before .before .before .before .loop in
-    (l .inv .1 .small-a, bit-small (c .before .before .before .before .before .before .before .before .before .before .before .before .before .args .u .now) (p .bits-u) (l .s) (omega arith))
+    (l .inv .1 .small-a, bit-low _ (p .bits-u) (l .s))
 
 next-requires-2 : tie.Need-next-requires-2 Inv-loop μ-loop
 next-requires-2 c κs =
     let p = c .before .before .before .before .before .before .before .before .before .before .before .before .before .before .pre .0 in
     let l = c .before .before .before .before .before .before .before .before .before .before .loop in
-    (l .inv .1 .small-b, bit-small (c .before .before .before .before .before .before .before .before .before .before .before .before .before .before .args .v .now) (p .bits-v) (l .s) (omega (arith, p .same)))
+    (l .inv .1 .small-b, bit-low _ (p .bits-v) (l .s))
 
 next-clock-requires : tie.Need-next-clock-requires Inv-loop μ-loop
 next-clock-requires c κs =

@@ -49,7 +49,7 @@ slice-write-v : tie.Need-slice-write-v Inv-loop μ-loop
 slice-write-v c =
     let st = c .before .before .before .before .before .before in
     let l = c .before .before .before .loop in
-    fits _ _ (l .inv .2) (inputs-more (st .args .row) (st .args .u .now) (l .s) (st .pre .0) (st .pre .1) (st .pre .3) (omega arith))
+    fits _ _ (l .inv .2) (inputs-more (st .args .row) (st .args .u .now) (l .s) (st .pre .3) (omega arith))
 
 add-s : tie.Need-add-s Inv-loop μ-loop
 add-s c = search needs
@@ -61,7 +61,7 @@ loop-again : tie.Need-loop-again Inv-loop μ-loop
 loop-again c =
     let st = c .before .before .before .before .before .before in
     let l = c .before .before .before .loop in
-    let next = inputs-more (st .args .row) (st .args .u .now) (l .s) (st .pre .0) (st .pre .1) (st .pre .3) (omega arith) in
+    let next = inputs-more (st .args .row) (st .args .u .now) (l .s) (st .pre .3) (omega arith) in
     (search needs, l .inv .1, rw (c .before .position .ensures) (more _ _ (l .inv .2) next))
 
 same-length : tie.Need-same-length Inv-loop μ-loop
