@@ -1,6 +1,7 @@
 pub mod Facts
 pub mod Good
 pub mod GoodFlags
+pub mod Names
 pub mod Padded
 pub mod PassedOn
 pub mod Places

@@ -1,7 +1,6 @@
 -- Each name has its number of clocks, and any other none. Assumes nothing.
-use mathlib.Core.Path.{sym}
-use borrow.Author.Tests.{ne-eqb}
 use Rattle.links.specs.Patterns.{patterns, clocksIn}
+use Rattle.links.proofs.Names.{no-clocks}
 use Rattle.links.proofs.flags.clocks.Statement.{statement}
 use Rattle.links.proofs.flags.clocks.Tie as tie
 
@@ -30,17 +29,8 @@ unfolding patterns clocksIn
 returns-6 c = rw (c .match .keys6)
 
 returns-7 : tie.Need-returns-7
-unfolding patterns clocksIn
-returns-7 c =
-    let name = c .before .args .name in
-    rw (
-      ne-eqb 0x2 name (λ e. (c .match .rest .0 .0 .0 .0 .0 .1) (sym e)),
-      ne-eqb 0x4 name (λ e. (c .match .rest .0 .0 .0 .0 .1) (sym e)),
-      ne-eqb 0x6 name (λ e. (c .match .rest .0 .0 .0 .1) (sym e)),
-      ne-eqb 0x7a name (λ e. (c .match .rest .0 .0 .1) (sym e)),
-      ne-eqb 0x7b name (λ e. (c .match .rest .0 .1) (sym e)),
-      ne-eqb 0x8 name (λ e. (c .match .rest .1) (sym e)),
-    )
+unfolding patterns
+returns-7 c = rw (no-clocks Unit patterns _ (c .match .rest))
 
 pub clocks-spec : {M : Type 1} → statement M
 clocks-spec =

@@ -1,7 +1,6 @@
 -- Each name has its clocks, and any other none. Assumes nothing.
-use mathlib.Core.Path.{sym}
-use borrow.Author.Tests.{ne-eqb}
 use Rattle.links.specs.Patterns.{tails, clocksIn, padded}
+use Rattle.links.proofs.Names.{no-clocks}
 use Rattle.links.proofs.flags.tail.Statement.{statement}
 use Rattle.links.proofs.flags.tail.Tie as tie
 
@@ -42,20 +41,8 @@ unfolding tails clocksIn padded
 returns-9 c = rw (c .match .keys9)
 
 returns-10 : tie.Need-returns-10
-unfolding tails clocksIn padded
-returns-10 c =
-    let name = c .before .args .name in
-    rw (
-      ne-eqb 0x2a name (λ e. (c .match .rest .0 .0 .0 .0 .0 .0 .0 .0 .1) (sym e)),
-      ne-eqb 0x2e name (λ e. (c .match .rest .0 .0 .0 .0 .0 .0 .0 .1) (sym e)),
-      ne-eqb 0x4a name (λ e. (c .match .rest .0 .0 .0 .0 .0 .0 .1) (sym e)),
-      ne-eqb 0x6 name (λ e. (c .match .rest .0 .0 .0 .0 .0 .1) (sym e)),
-      ne-eqb 0x6a name (λ e. (c .match .rest .0 .0 .0 .0 .1) (sym e)),
-      ne-eqb 0x7a name (λ e. (c .match .rest .0 .0 .0 .1) (sym e)),
-      ne-eqb 0x7b name (λ e. (c .match .rest .0 .0 .1) (sym e)),
-      ne-eqb 0x8 name (λ e. (c .match .rest .0 .1) (sym e)),
-      ne-eqb 0x8b name (λ e. (c .match .rest .1) (sym e)),
-    )
+unfolding tails padded
+returns-10 c = rw (no-clocks Unit tails _ (c .match .rest))
 
 pub tail-spec : {M : Type 1} → statement M
 tail-spec =
