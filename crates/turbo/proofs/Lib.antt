@@ -1,6 +1,5 @@
 pub mod Affine
 pub mod AtClock
-pub mod Bounds
 pub mod Cases
 pub mod Interleaved
 pub mod Left

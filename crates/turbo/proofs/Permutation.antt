@@ -14,20 +14,20 @@ use Rattle.turbo.proofs.Affine.{affine, affineBack, back-affine, affine
 use Rattle.turbo.proofs.Steps.{position-steps}
 
 module _ (row : Row) where
-  abbrev half : ℕ
+  abbrev pub half : ℕ
   half = row .k1 / 2
 
   -- t, c and π(s) from the digits m, i, j of s - 1
-  abbrev tFrom : ℕ → ℕ
+  abbrev pub tFrom : ℕ → ℕ
   tFrom i = affine half 19 1 i
 
-  abbrev cFrom : ℕ → ℕ → ℕ → ℕ
+  abbrev pub cFrom : ℕ → ℕ → ℕ → ℕ
   cFrom m t j = affine (row .k2) (prime row (t % 8)) (21 * m) j
 
-  abbrev placeOf : ℕ → ℕ → ℕ → ℕ
+  abbrev pub placeOf : ℕ → ℕ → ℕ → ℕ
   placeOf m t c = 2 * (t + c * half + 1) - m
 
-  abbrev digitsPlace : ℕ → ℕ → ℕ → ℕ
+  abbrev pub digitsPlace : ℕ → ℕ → ℕ → ℕ
   digitsPlace m i j = placeOf m (tFrom i) (cFrom m (tFrom i) j)
 
   position-is : (s : ℕ) → position row s ≡ digitsPlace ((s - 1) % 2) ((s - 1) / 2 / row .k2) ((s - 1) / 2 % row .k2)
@@ -39,7 +39,7 @@ module _ (row : Row) where
       ∙ ap (digitsPlace m (x / row .k2)) (sym (mod-eq-sub-div-mul x (row .k2)))
 
   -- the s with π(s) = r, from the digits m, t, c of r
-  abbrev clockFrom : ℕ → ℕ → ℕ → ℕ
+  abbrev pub clockFrom : ℕ → ℕ → ℕ → ℕ
   clockFrom m i j = 2 * (i * row .k2 + j) + m + 1
 
   abbrev iFrom : ℕ → ℕ
@@ -131,7 +131,7 @@ module _ (row : Row) (good : T (goodRow row)) where
       ∙ omega arith
 
   -- ---- from a place to its clock and back
-  position-clock-from : (m i j : ℕ) → m < 2 → j < row .k2 → position row (clockFrom row m i j) ≡ digitsPlace row m i j
+  pub position-clock-from : (m i j : ℕ) → m < 2 → j < row .k2 → position row (clockFrom row m i j) ≡ digitsPlace row m i j
   position-clock-from m i j hm hj =
       position-is row (clockFrom row m i j)
       ∙ ap₂ (λ (m x : ℕ). digitsPlace row m (x / row .k2) (x % row .k2)) (last (i * row .k2 + j)) (rest (i * row .k2 + j))
