@@ -1,6 +1,6 @@
 -- Pair by pair: those from j on are left to lay. Assumes nothing.
 use mathlib.Core.Path.{_∙_}
-use Prim.Native.Nat.{ℕ, _+_, _-_, _*_, _%_, _≤_}
+use Prim.Native.Nat.{_^_, _<_, ℕ, _+_, _-_, _*_, _≤_}
 use native.Mathlib.Nat.{mod-lt}
 use native.Mathlib.Omega.{arith}
 use lib.ListN.{getD, length-set}
@@ -11,7 +11,6 @@ use Rattle.lists.specs.Over.{Laying}
 use Rattle.lists.proofs.Over.{fits, done}
 use Rattle.links.proofs.Facts.{prime, sizes}
 use Rattle.turbo.proofs.Interleaved.{place-code, row-small, pair-small, inputs, pairsFrom, pairs-start, pairs-done, pairs-more, pairs-next, pairs-room, place-inside}
-use Rattle.turbo.proofs.Permutation.{tFrom}
 use Rattle.turbo.proofs.interleaver.lay_row.Statement.{statement}
 use Rattle.turbo.proofs.interleaver.lay_row.Tie as tie
 
@@ -23,8 +22,11 @@ abbrev μ-loop : tie.MeasureT-loop
 μ-loop row i u v₀ k2 t q p j₀ v j = row .k2 - j
 
 -- a prime is a number of 32 bits
-small : (c : tie.After-primes Inv-loop μ-loop) (n : ℕ) → Fits w32 (getD (c .before .before .before .args .row .primes) n 0)
-small c n = search needs
+held : (c : tie.After-primes Inv-loop μ-loop) (n : ℕ) → Fits w32 (getD (c .before .before .before .args .row .primes) n 0)
+held c n = search needs
+
+small : (c : tie.After-primes Inv-loop μ-loop) (n : ℕ) → getD (c .before .before .before .args .row .primes) n 0 < 2 ^ 32
+small c n = omega (arith, held c n)
 
 cast-k2 : tie.Need-cast-k2 Inv-loop μ-loop
 cast-k2 c = search needs
@@ -84,7 +86,7 @@ mul-s-2 c =
 place-requires : tie.Need-place-requires Inv-loop μ-loop
 place-requires c κs =
     let st = c .before .before .before .before .before .before .before in
-    (st .pre .0, mod-lt _ (sizes (st .args .row) (st .pre .0) .half), omega (arith, small (c .before .before .before .before) (tFrom (st .args .row) (st .args .i) % 8 + 1 - 1)), search needs, search needs)
+    (st .pre .0, mod-lt _ (sizes (st .args .row) (st .pre .0) .half), search (small (c .before .before .before .before)), search needs, search needs)
 
 sub-v : tie.Need-sub-v Inv-loop μ-loop
 sub-v c =
@@ -105,7 +107,7 @@ slice-write-v c =
 place-requires-2 : tie.Need-place-requires-2 Inv-loop μ-loop
 place-requires-2 c κs =
     let st = c .before .before .before .before .before .before .before .before .before in
-    (st .pre .0, mod-lt _ (sizes (st .args .row) (st .pre .0) .half), omega (arith, small (c .before .before .before .before .before .before) (tFrom (st .args .row) (st .args .i) % 8 + 1 - 1)), search needs, search needs)
+    (st .pre .0, mod-lt _ (sizes (st .args .row) (st .pre .0) .half), search (small (c .before .before .before .before .before .before)), search needs, search needs)
 
 sub-v-2 : tie.Need-sub-v-2 Inv-loop μ-loop
 sub-v-2 c =
