@@ -9,7 +9,7 @@ use native.Mathlib.Omega.{arith}
 use borrow.Author.Tests.{leb-true, le-leb}
 use lib.Dec.{leb}
 use lib.ListN.{length, getD, set, length-map}
-use Rattle.lists.specs.All.{all}
+use Rattle.lists.specs.Every.{every}
 use Rattle.bits.specs.Bits.{isOne, allBits}
 use Rattle.bits.specs.Row.{flip}
 use Rattle.bits.proofs.Bits.{both-true}
@@ -26,13 +26,13 @@ inverted (suc zero) h = refl
 inverted (suc (suc x)) h = absurd (omega arith)
 
 flip-bytes : (u : List ℕ) (place : ℕ) → allBits u ≡ true → map isOne (set u place (1 - getD u place 0)) ≡ flip place (map isOne u)
-unfolding all flip
+unfolding every flip
 flip-bytes [] place bits = refl
 flip-bytes (x ∷ u) zero bits = ap (λ (b : Bool). b ∷ map isOne u) (inverted x (leb-true x 1 (both-true (leb x 1) (allBits u) bits .0)))
 flip-bytes (x ∷ u) (suc place) bits = ap (λ (l : List Bool). isOne x ∷ l) (flip-bytes u place (both-true (leb x 1) (allBits u) bits .1))
 
 flip-bits : (u : List ℕ) (place : ℕ) → allBits u ≡ true → allBits (set u place (1 - getD u place 0)) ≡ true
-unfolding all
+unfolding every
 flip-bits [] place bits = refl
 flip-bits (x ∷ u) zero bits = rw (le-leb (1 - x) 1 (omega arith)) (both-true (leb x 1) (allBits u) bits .1)
 flip-bits (x ∷ u) (suc place) bits = let p = both-true (leb x 1) (allBits u) bits in rw (p .0) (flip-bits u place (p .1))

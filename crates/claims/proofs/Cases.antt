@@ -10,7 +10,7 @@ use lib.ListN.{length, getD, length-map}
 use Rattle.answers.specs.Numbers.{wrongLength, noWord}
 use Rattle.answers.specs.Outcome.{refusal}
 use Rattle.answers.proofs.Task.{write-long}
-use Rattle.lists.specs.All.{all}
+use Rattle.lists.specs.Every.{every}
 use Rattle.lists.proofs.Line.{line}
 use Rattle.bits.specs.Bits.{byte}
 use Rattle.bits.specs.Row.{highFirst, differences}
@@ -72,5 +72,5 @@ short-7 rest room size =
     (λ e. omega (arith, e, size, length-map (blockPart (headOf 7 ++ rest)) byte, ap length (block-of 7 rest), images .2)))
 
 pub cases : Cases
-unfolding generator withRows wordOf all fillAt messageAt stepAt stepMessage
+unfolding generator withRows wordOf every fillAt messageAt stepAt stepMessage
 cases = record { P1 = refl; P2 = refl; P3 = refl; P4 = seven-wrong; P5 = eight-wrong; P6 = nine-wrong; P7 = (p7-y0, p7-y1); P8 = p8; P9 = p9; P10 = (held-by-12, too-long); P11 = (refl, refl, refl); P12 = (refl, refl, refl); short-7 = short-7; burst-lengths = rw (images .0, images .1, images .2) }

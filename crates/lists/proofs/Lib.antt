@@ -1,4 +1,3 @@
-pub mod All
 pub mod Edit
 pub mod Every
 pub mod Line

@@ -12,7 +12,7 @@ use lib.Seq.{length-take-le}
 use borrow.Author.Tests.{eqb-true, eqb-false, ltb-true, ltb-false}
 use Rattle.answers.specs.Numbers.{notOffered, wrongLength, noRoom, noBit, noTraining, noWord, noBlock}
 use Rattle.answers.specs.Outcome.{Outcome}
-use Rattle.lists.proofs.All.{all-drop}
+use Rattle.lists.proofs.Every.{every-drop}
 use Rattle.lists.proofs.Parts.{drop-take}
 use Rattle.bits.specs.Bits.{isOne, byte, allBits}
 use Rattle.bits.specs.Row.{differences}
@@ -96,7 +96,7 @@ module _ (burst : List ℕ) (room : ℕ) where
     word-long = length-take-le 32 (drop trainingLength burst) (omega (arith, t .long, length-drop trainingLength burst))
 
     word-bits : allBits (wordPart burst) ≡ true
-    word-bits = ap allBits (sym (drop-take trainingLength headLength burst)) ∙ all-drop _ trainingLength (headPart burst) (t .bits)
+    word-bits = ap allBits (sym (drop-take trainingLength headLength burst)) ∙ every-drop _ trainingLength (headPart burst) (t .bits)
 
     slot-goes : (link wrong : ℕ) → Named burst link wrong → (slot : Bool) → isSlotLink link ≡ slot → Reading burst room
     slot-goes link wrong n true s =

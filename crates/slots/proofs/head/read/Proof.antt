@@ -9,7 +9,7 @@ use lib.Seq.{length-take-le, take-take}
 use borrow.Author.Needs.{needs}
 use borrow.Author.Tests.{not-true, not-false}
 use Rattle.bits.specs.Bits.{allBits}
-use Rattle.lists.proofs.All.{all-take}
+use Rattle.lists.proofs.Every.{every-take}
 use Rattle.slots.specs.Burst.{trainingLength, headLength}
 use Rattle.slots.specs.Calls.{trainingWrong, slotWord}
 use Rattle.slots.proofs.Calls.{head-short, head-no-bit, head-no-training, head-word}
@@ -19,7 +19,7 @@ use Rattle.slots.proofs.head.read.Tie as tie
 -- the training of a head is made of bits as the head is
 training-bits : (burst : List ℕ) → allBits (take headLength burst) ≡ true → allBits (take trainingLength burst) ≡ true
 training-bits burst e =
-    ap allBits (sym (take-take trainingLength headLength burst (omega arith))) ∙ all-take _ trainingLength (take headLength burst) e
+    ap allBits (sym (take-take trainingLength headLength burst (omega arith))) ∙ every-take _ trainingLength (take headLength burst) e
 
 refuse-requires : tie.Need-refuse-requires
 refuse-requires c κs = search needs

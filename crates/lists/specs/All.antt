@@ -1,2 +1,0 @@
--- Another name of `every`.
-unfoldable pub use Rattle.lists.specs.Every.{every as all}
