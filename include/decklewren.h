@@ -1,28 +1,23 @@
-/* Decklewren: the burst coder of a VHF data exchange (VDES) module, ITU-R M.2092-1.
+/* Decklewren: the burst coder of a VHF data exchange (VDES) module, ITU-R M.2092-1. For C11 and C++11.
 
-   Every call returns, touches nothing but the buffers it is lent, and keeps nothing between calls.
-   A call that cannot be met answers the number of its refusal as status, 0 for all else, and
-   changes no byte. Equal requests with equally long buffers give equal answers and write equal
-   bytes, whatever the buffers held before. The Rattle sources of these calls are proved to meet
-   their contracts; this header, the compiler's back end and the C side are not covered by a proof.
+   THE CALLS keep nothing between them, need no preparing and may be made from any thread. Bits travel one to a byte, with the
+   byte 0 or 1. Datagrams are plain bytes. Every call answers a struct whose status is 0 (done) or the number of a refusal.
 
-   What a caller keeps to: a pointer is valid for the length that follows it, for writing where it
-   is not const, and is not null, not even at length 0; buffers of one call do not overlap.
+   A REFUSAL answers its number, 0 for all else, and changes no byte. Each call names its refusals in the order in which they
+   are tried: where several apply, the first of that list is answered.
 
-   Bits travel one to a byte, with the byte 0 or 1.
+   WHAT A CALLER KEEPS TO. A pointer is valid for the length that follows it, for writing where it is not const, and is not
+   null, not even at length 0. The buffers of one call do not overlap, and nobody changes them while the call runs. The stack
+   has room: docs/BENCHMARKS.md says how much the longest block needs. Nothing else is asked: any number may stand for a link
+   or a position, and any bytes in the buffers.
 
-   status  when
-     0     done
-     1     link not offered; number above 63 for a link word; slot burst not of link 5, 6, 7
-     2     datagram longer than the link holds; link word, block or slot burst of the wrong length
-     3     output buffer too short
-     4     a byte neither 0 nor 1
-     5     training differs
-     6     no code word within seven
-     7     no valid block differs in at most one place
-     8     position past the end
-     9     fewer than 3 bytes left, length below 7, or message past the end
-    10     fill holds another byte */
+   WHAT IS PROVED, of the Rattle sources of these calls, for all input: a call returns, touches nothing but the buffers that it
+   is lent, and answers and writes what its contract says. The contracts leave one answer and one content of the buffers,
+   whatever these held before. "Proved" at a call below names fields of the records in crates/claims/specs/Demands.antt;
+   docs/PROMISES.md goes through them sentence by sentence.
+
+   WHAT IS NOT PROVED: this header, the compiler's back end and the C side. They are tested: host/header_test.c holds every name
+   and size below to the archive, and the cross-check holds every call to a second implementation. */
 
 #ifndef DECKLEWREN_H
 #define DECKLEWREN_H
@@ -34,29 +29,89 @@
 extern "C" {
 #endif
 
+/* The numbers a caller gets back as status (document 01, the table of that name). */
+enum {
+    DECKLEWREN_DONE = 0,
+    DECKLEWREN_NOT_OFFERED = 1,    /* link not offered; number above 63 for a link word; slot burst not of link 5, 6, 7 */
+    DECKLEWREN_WRONG_LENGTH = 2,   /* datagram longer than the link holds; link word, block or slot burst of the wrong length */
+    DECKLEWREN_NO_ROOM = 3,        /* output buffer too short */
+    DECKLEWREN_NO_BIT = 4,         /* a byte neither 0 nor 1 */
+    DECKLEWREN_NO_TRAINING = 5,    /* training differs */
+    DECKLEWREN_NO_WORD = 6,        /* no code word within seven */
+    DECKLEWREN_NO_BLOCK = 7,       /* no valid block's image within one */
+    DECKLEWREN_PAST_END = 8,       /* position past the end */
+    DECKLEWREN_BROKEN_MESSAGE = 9, /* fewer than 3 bytes left, length below 7, or message past the end */
+    DECKLEWREN_BROKEN_FILL = 10    /* fill holds another byte */
+};
+
+/* The links that are offered (document 01, "The links"): X(link, bytes of a datagram that it holds, N bits of its image). */
+#define DECKLEWREN_LINKS(X) \
+    X(5, 32, 394)           \
+    X(6, 80, 906)           \
+    X(7, 128, 1418)         \
+    X(8, 20, 396)           \
+    X(9, 52, 908)           \
+    X(10, 84, 1420)         \
+    X(11, 50, 874)          \
+    X(12, 117, 1308)        \
+    X(13, 158, 1740)        \
+    X(14, 108, 1804)        \
+    X(15, 248, 2700)        \
+    X(16, 332, 3596)        \
+    X(17, 230, 3754)        \
+    X(18, 500, 5388)        \
+    X(19, 698, 7500)        \
+    X(20, 8, 402)           \
+    X(21, 88, 1112)         \
+    X(22, 386, 4692)        \
+    X(23, 564, 6828)        \
+    X(25, 593, 9562)        \
+    X(32, 35, 1269)         \
+    X(33, 531, 12855)
+
+/* The links that have slot bursts (document 01, "Slot bursts"): X(link, bits of its slot burst). */
+#define DECKLEWREN_SLOT_LINKS(X) \
+    X(5, 480)                    \
+    X(6, 992)                    \
+    X(7, 1504)
+
+/* The same as names: DECKLEWREN_HELD_6 is 80, DECKLEWREN_IMAGE_6 is 906, DECKLEWREN_BURST_6 is 992. */
+#define DECKLEWREN_NAME_SIZES(link, held, image) DECKLEWREN_HELD_##link = held, DECKLEWREN_IMAGE_##link = image,
+#define DECKLEWREN_NAME_BURST(link, burst) DECKLEWREN_BURST_##link = burst,
+enum {
+    DECKLEWREN_LINKS(DECKLEWREN_NAME_SIZES)
+    DECKLEWREN_SLOT_LINKS(DECKLEWREN_NAME_BURST)
+    DECKLEWREN_WORD_BITS = 32,                  /* bits of a link word */
+    DECKLEWREN_HELD_MOST = DECKLEWREN_HELD_19,   /* a buffer this long takes every link's datagram, */
+    DECKLEWREN_IMAGE_MOST = DECKLEWREN_IMAGE_33, /* every link's image, */
+    DECKLEWREN_BURST_MOST = DECKLEWREN_BURST_7   /* every slot burst */
+};
+#undef DECKLEWREN_NAME_SIZES
+#undef DECKLEWREN_NAME_BURST
+
 /* What a writing call answers: count is the number of bytes laid at the buffer's start. */
 typedef struct {
     uint32_t status;
     uint32_t count;
 } decklewren_written;
 
-/* What reading a link word answers: wrong is the number of places where it differs. */
+/* What reading a link word answers: wrong is the number of places, 0 to 7, where it differs from the number's word. */
 typedef struct {
     uint32_t status;
     uint32_t number;
     uint32_t wrong;
 } decklewren_word;
 
-/* What reading a block answers: count is the number of the datagram's bytes laid at the buffer's start,
-   wrong the number of places, 0 or 1, where its image differs. */
+/* What reading a block answers: count is the number of the datagram's bytes laid at the buffer's start, wrong the number of
+   places, 0 or 1, where the image of its block differs from what came. */
 typedef struct {
     uint32_t status;
     uint32_t count;
     uint32_t wrong;
 } decklewren_block;
 
-/* What reading a slot burst answers: count and wrong as reading its block does, the link that its link word names,
-   and word_wrong, the number of places, 0 to 7, where the link word differs. */
+/* What reading a slot burst answers: count and wrong as reading its block does, the link that its link word names, and
+   word_wrong, the number of places, 0 to 7, where the link word differs. */
 typedef struct {
     uint32_t status;
     uint32_t count;
@@ -73,56 +128,64 @@ typedef struct {
 } decklewren_step;
 
 /* Writes the link word of a number (M.2092-1, Annex 2, 1.2.3.4).
-   In:      number, 0 to 63
-   Out:     32 bytes 0 or 1 at the start of out; bytes behind stay
-   Returns: status 0 and count 32; else, the first of these that applies:
-            1 number above 63, 3 out_len below 32 */
+   Returns:  status and count 32
+   In:       number, 0 to 63, be the link of that number offered or not
+   Out:      32 bytes 0 or 1 at the start of out; bytes behind stay
+   Refusals: 1 number above 63, 3 out_len below 32
+   Proved:   Demand2.words-written, words-back */
 decklewren_written decklewren_write_word(uint32_t number, uint8_t *out, size_t out_len);
 
 /* Reads 32 bits as a link word.
-   In:      bits, 32 bytes 0 or 1
-   Returns: status 0, the number whose word is within seven places, and how many places are wrong;
-            else, the first of these that applies:
-            2 bits_len is not 32, 4 a byte neither 0 nor 1, 6 no code word within seven */
+   Returns:  status, the number whose word is within seven places, and how many places are wrong
+   In:       bits, 32 bytes 0 or 1
+   Out:      nothing
+   Refusals: 2 bits_len is not 32, 4 a byte neither 0 nor 1, 6 no code word within seven
+   Proved:   Demand3.word-exact, word-none, word-only-one, word-mended */
 decklewren_word decklewren_read_word(const uint8_t *bits, size_t bits_len);
 
-/* Writes the image of a datagram's block (M.2092-1, Annex 2, 1.2.4 to 1.2.6), for the links that document 01 lists.
-   In:      link; datagram, at most as many bytes as the link holds; it is filled with zero bytes
-   Out:     N bytes 0 or 1 at the start of out, N being the link's; bytes behind stay
-   Returns: status 0 and count N; else, the first of these that applies:
-            1 link not offered, 2 datagram longer than the link holds, 3 out_len below N */
+/* Writes the image of a datagram's block (M.2092-1, Annex 2, 1.2.4 to 1.2.6).
+   Returns:  status and count N, N being the link's in DECKLEWREN_LINKS
+   In:       link; datagram, at most as many bytes as the link holds; it is filled with zero bytes
+   Out:      N bytes 0 or 1 at the start of out; bytes behind stay
+   Refusals: 1 link not offered, 2 datagram longer than the link holds, 3 out_len below N
+   Proved:   Demand2.blocks-written, blocks-back */
 decklewren_written decklewren_write_block(uint32_t link, const uint8_t *datagram, size_t datagram_len, uint8_t *out, size_t out_len);
 
 /* Reads the image of a block, with at most one bit of it wrong.
-   In:      link; bits, N bytes 0 or 1, N being the link's
-   Out:     the datagram, all the bytes that the link holds, at the start of out; bytes behind stay
-   Returns: status 0, count, and how many places are wrong; else, the first of these that applies:
-            1 link not offered, 2 bits_len is not N, 3 out_len below the bytes that the link holds,
-            4 a byte neither 0 nor 1, 7 no valid block differs in at most one place */
+   Returns:  status, count, and how many places are wrong
+   In:       link; bits, N bytes 0 or 1, N being the link's in DECKLEWREN_LINKS
+   Out:      the datagram, all the bytes that the link holds, at the start of out; bytes behind stay. The zero fill is not cut
+             away: a datagram may end in zeros of its own
+   Refusals: 1 link not offered, 2 bits_len is not N, 3 out_len below the bytes that the link holds, 4 a byte neither 0 nor 1,
+             7 no valid block's image within one place
+   Proved:   Demand3.block-exact, block-none, block-only-one, block-answered, block-mended */
 decklewren_block decklewren_read_block(uint32_t link, const uint8_t *bits, size_t bits_len, uint8_t *out, size_t out_len);
 
 /* Writes the slot burst of a datagram (M.2092-1, Annex 3, Table 23): 54 bits of training, the link word, the block.
-   In:      link, 5, 6 or 7; datagram, at most as many bytes as the link holds (32, 80, 128); it is filled with zero bytes
-   Out:     86 + N bytes 0 or 1 at the start of out, N being the link's: 480, 992 or 1504; bytes behind stay
-   Returns: status 0 and count 86 + N; else, the first of these that applies:
-            1 link not 5, 6, 7, 2 datagram longer than the link holds, 3 out_len below 86 + N */
+   Returns:  status and count 86 + N: 480, 992 or 1504
+   In:       link, 5, 6 or 7; datagram, at most as many bytes as the link holds (32, 80, 128); it is filled with zero bytes
+   Out:      86 + N bytes 0 or 1 at the start of out; bytes behind stay
+   Refusals: 1 link not 5, 6, 7, 2 datagram longer than the link holds, 3 out_len below 86 + N
+   Proved:   Demand2.slots-written, slots-back */
 decklewren_written decklewren_write_slot(uint32_t link, const uint8_t *datagram, size_t datagram_len, uint8_t *out, size_t out_len);
 
 /* Reads a slot burst, with at most seven bits of its link word wrong and at most one of its block.
-   In:      bits, 86 + N bytes 0 or 1, N being that of the link which the link word names: 480, 992 or 1504
-   Out:     the datagram, all the bytes that the link holds (32, 80, 128), at the start of out; bytes behind stay
-   Returns: status 0, count, how many places of the block are wrong, the link, and how many of its word are;
-            else, the first of these that applies:
-            2 bits_len below 86, 4 a byte neither 0 nor 1 in these 86, 5 training differs, 6 no code word within seven,
-            1 link not 5, 6, 7, 2 the rest is not N long, 3 out_len below the bytes that the link holds,
-            4 a byte neither 0 nor 1 in the rest, 7 no valid block differs from the rest in at most one place */
+   Returns:  status, count, how many places of the block are wrong, the link, and how many places of its word are
+   In:       bits, 86 + N bytes 0 or 1, N being that of the link which the link word names: 480, 992 or 1504
+   Out:      the datagram, all the bytes that the link holds (32, 80, 128), at the start of out; bytes behind stay
+   Refusals: 2 bits_len below 86, 4 a byte neither 0 nor 1 in these 86, 5 training differs, 6 no code word within seven,
+             1 link not 5, 6, 7, 2 the rest is not N long, 3 out_len below the bytes that the link holds,
+             4 a byte neither 0 nor 1 in the rest, 7 no valid block's image within one place of the rest
+   Proved:   Demand3.slot-exact, slot-only-one, slot-answered, slot-mended */
 decklewren_slot decklewren_read_slot(const uint8_t *bits, size_t bits_len, uint8_t *out, size_t out_len);
 
-/* Finds the message that begins at a position of a datagram (docs/MESSAGES.md has the loop that walks one).
-   In:      datagram, and any position
-   Returns: status 0 with the message's start and total length, or with both 0 where no more follow;
-            else 8 position past the end; then 9 (fewer than 3 bytes left, length below 7, or message past the end)
-            or 10 (fill holds another byte) */
+/* Finds the message that begins at a position of a datagram (M.2092-1, Annex 4, 4.9; docs/MESSAGES.md has the loop).
+   Returns:  status with the message's start and total length, or with both 0 where no more follow ("finished")
+   In:       datagram, and any position
+   Out:      nothing
+   Refusals: 8 position past the end; then 9 fewer than 3 bytes left, length below 7, or message past the end, or
+             10 fill holds another byte
+   Proved:   Demand2.step-inside, message-found, step-finished, lie-refused, walk-ends, walk-tiles, walk-fill, walk-bytes */
 decklewren_step decklewren_step_message(const uint8_t *datagram, size_t datagram_len, size_t position);
 
 #ifdef __cplusplus

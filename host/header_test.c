@@ -1,0 +1,118 @@
+/* Holds every name and size of the header to the archive. Compiled as C and as C++; the header comes first, so that it stands
+   alone. The last line counts, 'N passed, M failed'. */
+#include "decklewren.h"
+#include <stdio.h>
+#include <string.h>
+
+static unsigned passed, failed;
+
+static void expect(const char *what, unsigned number, uint64_t expected, uint64_t got) {
+    if (expected == got) {
+        passed++;
+        return;
+    }
+    failed++;
+    printf("%s %u: expected %llu, got %llu\n", what, number, (unsigned long long)expected, (unsigned long long)got);
+}
+
+/* The header's sizes of a link; a link that it does not list has none, and one without slot bursts has burst 0. */
+typedef struct {
+    uint32_t link, held, image, burst;
+} sizes;
+
+#define SIZES(link, held, image) {link, held, image, 0},
+#define BURST(link, burst) {link, DECKLEWREN_HELD_##link, DECKLEWREN_IMAGE_##link, burst},
+static const sizes links[] = {DECKLEWREN_LINKS(SIZES)};
+static const sizes slot_links[] = {DECKLEWREN_SLOT_LINKS(BURST)};
+enum { LINKS = sizeof links / sizeof *links, SLOT_LINKS = sizeof slot_links / sizeof *slot_links };
+
+static uint8_t datagram[DECKLEWREN_HELD_MOST + 1], bits[DECKLEWREN_IMAGE_MOST + DECKLEWREN_BURST_MOST];
+
+/* Each number that document 01 gives, by a request that it is the answer to. */
+static void check_word_numbers(void) {
+    uint8_t word[DECKLEWREN_WORD_BITS];
+    decklewren_written written = decklewren_write_word(5, word, sizeof word);
+    expect("DONE", 0, DECKLEWREN_DONE, written.status);
+    expect("WORD_BITS", 0, DECKLEWREN_WORD_BITS, written.count);
+    expect("NOT_OFFERED", 0, DECKLEWREN_NOT_OFFERED, decklewren_write_word(64, word, sizeof word).status);
+    expect("WRONG_LENGTH", 0, DECKLEWREN_WRONG_LENGTH, decklewren_read_word(word, sizeof word - 1).status);
+    expect("NO_ROOM", 0, DECKLEWREN_NO_ROOM, decklewren_write_word(5, word, sizeof word - 1).status);
+    for (size_t place = 0; place < 8; place++) word[place] ^= 1;
+    expect("NO_WORD", 0, DECKLEWREN_NO_WORD, decklewren_read_word(word, sizeof word).status);
+    word[31] = 2;
+    expect("NO_BIT", 0, DECKLEWREN_NO_BIT, decklewren_read_word(word, sizeof word).status);
+}
+
+static void check_other_numbers(void) {
+    const uint8_t message[8] = {74, 0, 9, 0, 0, 0, 1, 81}, fill[2] = {0, 1};
+    memset(bits, 0, sizeof bits);
+    expect("NO_TRAINING", 0, DECKLEWREN_NO_TRAINING, decklewren_read_slot(bits, 480, datagram, 32).status);
+    expect("NO_BLOCK", 0, DECKLEWREN_NO_BLOCK, decklewren_read_block(5, bits, 394, datagram, 32).status);
+    expect("PAST_END", 0, DECKLEWREN_PAST_END, decklewren_step_message(message, sizeof message, 9).status);
+    expect("BROKEN_MESSAGE", 0, DECKLEWREN_BROKEN_MESSAGE, decklewren_step_message(message, sizeof message, 0).status);
+    expect("BROKEN_FILL", 0, DECKLEWREN_BROKEN_FILL, decklewren_step_message(fill, sizeof fill, 0).status);
+}
+
+/* A link holds just so many bytes, and its image and its datagram need just so much room. */
+static void check_link(sizes of) {
+    uint32_t link = of.link;
+    expect("one byte more, link", link, 2, decklewren_write_block(link, datagram, of.held + 1, bits, sizeof bits).status);
+    expect("room for less than N, link", link, 3, decklewren_write_block(link, datagram, of.held, bits, of.image - 1).status);
+    expect("N of link", link, of.image, decklewren_write_block(link, datagram, of.held, bits, of.image).count);
+    expect("room for less than it holds, link", link, 3, decklewren_read_block(link, bits, of.image, datagram, of.held - 1).status);
+    expect("bytes held by link", link, of.held, decklewren_read_block(link, bits, of.image, datagram, of.held).count);
+}
+
+static void check_slot_link(sizes of) {
+    uint32_t link = of.link;
+    expect("one byte more, slot link", link, 2, decklewren_write_slot(link, datagram, of.held + 1, bits, sizeof bits).status);
+    expect("room for less than a burst, link", link, 3, decklewren_write_slot(link, datagram, of.held, bits, of.burst - 1).status);
+    expect("burst of link", link, of.burst, decklewren_write_slot(link, datagram, of.held, bits, of.burst).count);
+    expect("bytes held by slot link", link, of.held, decklewren_read_slot(bits, of.burst, datagram, of.held).count);
+}
+
+static int listed(const sizes *list, size_t count, uint32_t link) {
+    for (size_t n = 0; n < count; n++) {
+        if (list[n].link == link) return 1;
+    }
+    return 0;
+}
+
+/* The lists name every link that is offered, and no other. */
+static void check_lists(void) {
+    unsigned missed = 0;
+    for (uint32_t link = 0; link < 1000; link++) {
+        int offered = decklewren_write_block(link, datagram, 0, bits, sizeof bits).status != DECKLEWREN_NOT_OFFERED;
+        int has_slots = decklewren_write_slot(link, datagram, 0, bits, sizeof bits).status != DECKLEWREN_NOT_OFFERED;
+        if (offered != listed(links, LINKS, link) || has_slots != listed(slot_links, SLOT_LINKS, link)) {
+            printf("link %u is listed and not offered, or offered and not listed\n", (unsigned)link);
+            missed++;
+        }
+    }
+    expect("links that the lists get wrong", 0, 0, missed);
+}
+
+static void check_most(void) {
+    sizes most = {0, 0, 0, 0};
+    for (size_t n = 0; n < LINKS; n++) {
+        if (links[n].held > most.held) most.held = links[n].held;
+        if (links[n].image > most.image) most.image = links[n].image;
+    }
+    for (size_t n = 0; n < SLOT_LINKS; n++) {
+        if (slot_links[n].burst > most.burst) most.burst = slot_links[n].burst;
+    }
+    expect("HELD_MOST", 0, most.held, DECKLEWREN_HELD_MOST);
+    expect("IMAGE_MOST", 0, most.image, DECKLEWREN_IMAGE_MOST);
+    expect("BURST_MOST", 0, most.burst, DECKLEWREN_BURST_MOST);
+}
+
+int main(void) {
+    check_word_numbers();
+    check_other_numbers();
+    for (size_t n = 0; n < LINKS; n++) check_link(links[n]);
+    for (size_t n = 0; n < SLOT_LINKS; n++) check_slot_link(slot_links[n]);
+    check_lists();
+    check_most();
+    printf("%u passed, %u failed\n", passed, failed);
+    return failed != 0;
+}
