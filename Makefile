@@ -1,7 +1,8 @@
 # make run: the link word printer on document 01's example, the example of the README in C, and an ice notice through its day.
+# make tool: build/decklewren, the command line tool.
 # make test: the gate, as .ci/run runs it.
 # make bench: nanoseconds per block and ratios to a plain writer in C, measured in one run.
-.PHONY: run test bench
+.PHONY: run tool test bench
 
 CC ?= gcc
 CFLAGS = -std=c11 -O2 -Wall -Wextra -Wpedantic -Werror
@@ -15,6 +16,11 @@ run: build/example build/ice_notice
 
 build/example build/ice_notice: build/%: host/%.c include/decklewren.h $(ARCHIVE) | build
 	$(CC) $(CFLAGS) -Iinclude $< $(ARCHIVE) -o $@
+
+tool: build/decklewren
+
+build/decklewren: $(wildcard host/tool*.c) host/tool.h include/decklewren.h $(ARCHIVE) | build
+	$(CC) $(CFLAGS) -Iinclude $(filter %.c,$^) $(ARCHIVE) -o $@
 
 $(ARCHIVE): crates.txt $(wildcard crates/*/src/*.rt) | build
 	rt staticlib decklewren >build/staticlib.log

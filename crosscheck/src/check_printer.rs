@@ -56,18 +56,11 @@ fn prints(given: &Given, test: &mut Test, input: Input, output: String) {
         lines_in_time: true,
         exit: Some(0),
     };
-    test.case(call, expected, [run(&given.printer, input, 3)]);
-}
-
-fn whole(text: impl Into<Vec<u8>>) -> Input {
-    Input {
-        pieces: vec![text.into()],
-        stays_open: false,
-    }
+    test.case(call, expected, [run(&given.printer, &[], input, 3)]);
 }
 
 fn printer_prints_the_example(given: &Given, test: &mut Test) {
-    let input = whole(format!("{EXAMPLE}\n"));
+    let input = Input::whole(format!("{EXAMPLE}\n"));
     prints(given, test, input, example_read());
 }
 
@@ -76,7 +69,7 @@ fn printer_reads_table_3(given: &Given, test: &mut Test) {
     for word in &tables.table3 {
         let line = line_of(&bits(word));
         let expected = printed(&tables.words(), &line);
-        prints(given, test, whole(line + "\n"), expected);
+        prints(given, test, Input::whole(line + "\n"), expected);
     }
 }
 
@@ -91,26 +84,31 @@ fn printer_reads_inverted_places(given: &Given, test: &mut Test) {
                 8 => refused(6),
                 _ => format!("status=0\nlink={number}\nwrong={count}\n"),
             };
-            prints(given, test, whole(line + "\n"), expected);
+            prints(given, test, Input::whole(line + "\n"), expected);
         }
     }
 }
 
 fn printer_reads_without_newline(given: &Given, test: &mut Test) {
-    prints(given, test, whole(EXAMPLE), example_read());
-    prints(given, test, whole(&EXAMPLE[..31]), refused(2));
+    prints(given, test, Input::whole(EXAMPLE), example_read());
+    prints(given, test, Input::whole(&EXAMPLE[..31]), refused(2));
 }
 
 fn printer_refuses_empty_lines(given: &Given, test: &mut Test) {
-    prints(given, test, whole(""), refused(2));
-    prints(given, test, whole("\n"), refused(2));
-    prints(given, test, whole(format!("\n{EXAMPLE}\n")), refused(2));
+    prints(given, test, Input::whole(""), refused(2));
+    prints(given, test, Input::whole("\n"), refused(2));
+    prints(
+        given,
+        test,
+        Input::whole(format!("\n{EXAMPLE}\n")),
+        refused(2),
+    );
 }
 
 fn printer_refuses_lengths(given: &Given, test: &mut Test) {
     for length in [1, 16, 31, 33, 64] {
         let line: String = EXAMPLE.chars().cycle().take(length).collect();
-        prints(given, test, whole(line + "\n"), refused(2));
+        prints(given, test, Input::whole(line + "\n"), refused(2));
     }
 }
 
@@ -120,41 +118,56 @@ fn printer_refuses_long_lines(given: &Given, test: &mut Test) {
     for length in [65_535, 65_536, 65_537, 65_568, 100_000] {
         for character in ["0", "1", "x"] {
             let line = character.repeat(length);
-            prints(given, test, whole(line.clone()), refused(2));
-            prints(given, test, whole(line + "\n"), refused(2));
+            prints(given, test, Input::whole(line.clone()), refused(2));
+            prints(given, test, Input::whole(line + "\n"), refused(2));
         }
     }
     let line = "0".repeat(65_536) + EXAMPLE + "\n";
-    prints(given, test, whole(line), refused(2));
+    prints(given, test, Input::whole(line), refused(2));
 }
 
 fn printer_counts_carriage_returns(given: &Given, test: &mut Test) {
-    prints(given, test, whole(format!("{EXAMPLE}\r\n")), refused(2));
+    prints(
+        given,
+        test,
+        Input::whole(format!("{EXAMPLE}\r\n")),
+        refused(2),
+    );
     let short = &EXAMPLE[..31];
-    prints(given, test, whole(format!("{short}\r\n")), refused(4));
+    prints(
+        given,
+        test,
+        Input::whole(format!("{short}\r\n")),
+        refused(4),
+    );
 }
 
 /// Bytes 0 and 1, and other characters in the place of one; é is two characters here.
 fn printer_refuses_other_characters(given: &Given, test: &mut Test) {
     let raw: Vec<u8> = EXAMPLE.bytes().map(|character| character - b'0').collect();
-    prints(given, test, whole([&raw[..], b"\n"].concat()), refused(4));
+    prints(
+        given,
+        test,
+        Input::whole([&raw[..], b"\n"].concat()),
+        refused(4),
+    );
     for other in [0, 1, b' ', b'2', b'/', b'O', b'l', b'\t', 0x80, 0xFF] {
         for place in [0, 17, 31] {
             let mut line = EXAMPLE.as_bytes().to_vec();
             line[place] = other;
             line.push(b'\n');
-            prints(given, test, whole(line), refused(4));
+            prints(given, test, Input::whole(line), refused(4));
         }
     }
-    let input = whole(format!("{}é\n", &EXAMPLE[..30]));
+    let input = Input::whole(format!("{}é\n", &EXAMPLE[..30]));
     prints(given, test, input, refused(4));
-    let input = whole(format!("{}é\n", &EXAMPLE[..31]));
+    let input = Input::whole(format!("{}é\n", &EXAMPLE[..31]));
     prints(given, test, input, refused(2));
 }
 
 fn printer_ignores_text_behind(given: &Given, test: &mut Test) {
     for behind in ["\n", "x", "0", &"0".repeat(100_000), &"x\n".repeat(50_000)] {
-        let input = whole(format!("{EXAMPLE}\n{behind}"));
+        let input = Input::whole(format!("{EXAMPLE}\n{behind}"));
         prints(given, test, input, example_read());
     }
 }

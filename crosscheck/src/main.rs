@@ -1,7 +1,7 @@
 //! The cross-check: an independent second implementation, written from the documents alone,
 //! drives the archive and the built program call by call and compares.
 //!
-//! `crosscheck TABLES_DIR PRINTER_PATH` runs all tests; a test's name behind it runs that one, and
+//! `crosscheck TABLES_DIR PRINTER_PATH TOOL_PATH` runs all tests; a test's name behind it runs that one, and
 //! `traced` behind the name prints each call before it is made.
 
 mod archive;
@@ -21,6 +21,8 @@ mod check_refusals;
 mod check_slots_reading;
 mod check_slots_refusals;
 mod check_slots_writing;
+mod check_tool;
+mod check_tool_use;
 mod check_words;
 mod check_worked_burst;
 mod crc;
@@ -43,6 +45,7 @@ mod scrambler;
 mod second;
 mod slots;
 mod tables;
+mod tool;
 mod training;
 mod words;
 mod worked_burst;
@@ -66,10 +69,12 @@ fn main() -> ExitCode {
         check_slots_writing::TESTS,
         check_slots_reading::TESTS,
         check_slots_refusals::TESTS,
+        check_tool::TESTS,
+        check_tool_use::TESTS,
     ]
     .concat();
     let (given, chosen) = match arguments.as_slice() {
-        [tables, printer, chosen @ ..] => (Given::new(tables, printer), chosen),
+        [tables, printer, tool, chosen @ ..] => (Given::new(tables, printer, tool), chosen),
         _ => return wrong_use(),
     };
     match chosen {
@@ -82,7 +87,7 @@ fn main() -> ExitCode {
 
 fn wrong_use() -> ExitCode {
     eprintln!(
-        "use: crosscheck TABLES_DIR PRINTER_PATH [TEST [{}]]",
+        "use: crosscheck TABLES_DIR PRINTER_PATH TOOL_PATH [TEST [{}]]",
         report::TRACED
     );
     ExitCode::from(2)

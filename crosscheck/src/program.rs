@@ -17,7 +17,17 @@ pub struct Input {
     pub stays_open: bool,
 }
 
-/// What is seen of a run. `lines_in_time`: the awaited lines came within the limit, while an input
+impl Input {
+    /// All of it at once, and the end of the input behind it.
+    pub fn whole(text: impl Into<Vec<u8>>) -> Input {
+        Input {
+            pieces: vec![text.into()],
+            stays_open: false,
+        }
+    }
+}
+
+/// What is seen of a run, each byte of its texts as one character. `lines_in_time`: the awaited lines came within the limit, while an input
 /// that stays open was still open. `exit` is none if the program had to be stopped.
 #[derive(Debug, PartialEq)]
 pub struct Run {
@@ -27,8 +37,9 @@ pub struct Run {
     pub exit: Option<i32>,
 }
 
-pub fn run(program: &Path, input: Input, awaited_lines: usize) -> Run {
+pub fn run(program: &Path, arguments: &[&str], input: Input, awaited_lines: usize) -> Run {
     let mut child = Command::new(program)
+        .args(arguments)
         .stdin(Stdio::piped())
         .stdout(Stdio::piped())
         .stderr(Stdio::piped())
@@ -50,11 +61,16 @@ pub fn run(program: &Path, input: Input, awaited_lines: usize) -> Run {
     take_until(&stderr, &mut errors, |_| false);
     feeder.join().expect("the input can be written");
     Run {
-        output: String::from_utf8_lossy(&output).into_owned(),
-        errors: String::from_utf8_lossy(&errors).into_owned(),
+        output: as_characters(&output),
+        errors: as_characters(&errors),
         lines_in_time,
         exit,
     }
+}
+
+/// Each byte as the character of that number, so that different bytes are different texts.
+pub fn as_characters(bytes: &[u8]) -> String {
+    bytes.iter().map(|&byte| char::from(byte)).collect()
 }
 
 /// Writes the pieces; a program that ends before it has read them all is within its rights.

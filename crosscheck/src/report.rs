@@ -21,17 +21,20 @@ macro_rules! named_tests {
 }
 pub(crate) use named_tests;
 
-/// What the caller of the cross-check names: the printed tables and the built printer.
+/// What the caller of the cross-check names: the printed tables, the built printer and the built
+/// command line tool.
 pub struct Given {
     pub tables: PathBuf,
     pub printer: PathBuf,
+    pub tool: PathBuf,
 }
 
 impl Given {
-    pub fn new(tables: &str, printer: &str) -> Given {
+    pub fn new(tables: &str, printer: &str, tool: &str) -> Given {
         Given {
             tables: PathBuf::from(tables),
             printer: PathBuf::from(printer),
+            tool: PathBuf::from(tool),
         }
     }
 }
@@ -115,7 +118,7 @@ fn passes(name: &str, given: &Given) -> bool {
 fn in_own_process(arguments: &[&str], given: &Given) -> Output {
     let this_program = std::env::current_exe().expect("a running program has a path");
     Command::new(this_program)
-        .args([&given.tables, &given.printer])
+        .args([&given.tables, &given.printer, &given.tool])
         .args(arguments)
         .stderr(Stdio::inherit())
         .output()

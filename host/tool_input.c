@@ -1,0 +1,64 @@
+/* Standard input: bits as characters 0 and 1, datagrams as bytes or as hexadecimal digits. */
+#include "tool.h"
+#include <stdio.h>
+
+/* All of standard input, at most 64 KiB. */
+static int take(input *into) {
+    into->count = fread(into->bytes, 1, sizeof into->bytes, stdin);
+    if (ferror(stdin)) {
+        fprintf(stderr, "decklewren: standard input cannot be read\n");
+        return 0;
+    }
+    if (into->count > INPUT_MOST) {
+        fprintf(stderr, "decklewren: standard input is longer than 64 KiB\n");
+        return 0;
+    }
+    return 1;
+}
+
+/* One newline at the end is no bit. Every other character is handed on, '0' as 0 and '1' as 1, all others as another byte, so
+   that the library refuses them (document 01, number 4). */
+int take_bits(input *into) {
+    if (!take(into)) {
+        return 0;
+    }
+    if (into->count > 0 && into->bytes[into->count - 1] == '\n') {
+        into->count--;
+    }
+    for (size_t place = 0; place < into->count; place++) {
+        into->bytes[place] = (uint8_t)(into->bytes[place] - '0');
+    }
+    return 1;
+}
+
+/* The value of a hexadecimal digit, or -1. */
+static int digit(uint8_t character) {
+    if (character >= '0' && character <= '9') return character - '0';
+    if (character >= 'a' && character <= 'f') return character - 'a' + 10;
+    if (character >= 'A' && character <= 'F') return character - 'A' + 10;
+    return -1;
+}
+
+static int is_space(uint8_t character) { return character == ' ' || (character >= '\t' && character <= '\r'); }
+
+/* Two digits to a byte, with spaces and newlines between bytes; the bytes take the digits' place. */
+static int from_hex(input *into) {
+    size_t count = 0;
+    for (size_t place = 0; place < into->count; place++) {
+        if (is_space(into->bytes[place])) {
+            continue;
+        }
+        int high = digit(into->bytes[place]);
+        int low = place + 1 < into->count ? digit(into->bytes[place + 1]) : -1;
+        if (high < 0 || low < 0) {
+            fprintf(stderr, "decklewren: no hexadecimal byte at character %zu of standard input\n", place + 1);
+            return 0;
+        }
+        into->bytes[count++] = (uint8_t)(16 * high + low);
+        place++;
+    }
+    into->count = count;
+    return 1;
+}
+
+int take_datagram(input *into, int hex) { return take(into) && (!hex || from_hex(into)); }
