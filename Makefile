@@ -1,12 +1,17 @@
 # make run: the link word printer on document 01's example, the example of the README in C, and an ice notice through its day.
 # make tool: build/decklewren, the command line tool.
+# make install: header, archive and pkg-config file below PREFIX; DESTDIR stands before it where a package is staged.
+# make check-install: installs both ways below build/ and compiles the README's example against each tree.
 # make test: the gate, as .ci/run runs it.
 # make bench: nanoseconds per block and ratios to a plain writer in C, measured in one run.
-.PHONY: run tool test bench
+.PHONY: run tool install check-install test bench
 
 CC ?= gcc
 CFLAGS = -std=c11 -O2 -Wall -Wextra -Wpedantic -Werror
 ARCHIVE = target/staticlib/libdecklewren.a
+VERSION = 0.1.0
+PREFIX ?= /usr/local
+INSTALLED = $(DESTDIR)$(PREFIX)
 
 run: build/example build/ice_notice
 	@rt check link_word_printer >build/printer.log 2>&1 || { cat build/printer.log; exit 1; }
@@ -21,6 +26,19 @@ tool: build/decklewren
 
 build/decklewren: $(wildcard host/tool*.c) host/tool.h include/decklewren.h $(ARCHIVE) | build
 	$(CC) $(CFLAGS) -Iinclude $(filter %.c,$^) $(ARCHIVE) -o $@
+
+install: $(ARCHIVE)
+	install -d "$(INSTALLED)/include" "$(INSTALLED)/lib/pkgconfig"
+	install -m 644 include/decklewren.h "$(INSTALLED)/include/decklewren.h"
+	install -m 644 $(ARCHIVE) "$(INSTALLED)/lib/libdecklewren.a"
+	sed -e 's|@PREFIX@|$(PREFIX)|' -e 's|@VERSION@|$(VERSION)|' host/decklewren.pc.in >"$(INSTALLED)/lib/pkgconfig/decklewren.pc"
+
+check-install:
+	rm -rf build/installed build/staged
+	$(MAKE) install DESTDIR= PREFIX="$(CURDIR)/build/installed"
+	$(MAKE) install DESTDIR="$(CURDIR)/build/staged" PREFIX=/opt/decklewren
+	bash host/check_install.sh "" "$(CURDIR)/build/installed" $(VERSION)
+	bash host/check_install.sh "$(CURDIR)/build/staged" /opt/decklewren $(VERSION)
 
 $(ARCHIVE): crates.txt $(wildcard crates/*/src/*.rt) | build
 	rt staticlib decklewren >build/staticlib.log
