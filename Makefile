@@ -3,8 +3,9 @@
 # make install: header, archive and pkg-config file below PREFIX; DESTDIR stands before it where a package is staged.
 # make check-install: installs both ways below build/ and compiles the README's example against each tree.
 # make test: the gate, as .ci/run runs it.
+# make soak: not in the gate. CALLS calls of each kind, random, damaged and lying, the archive against the second implementation.
 # make bench: nanoseconds per block and ratios to a plain writer in C, measured in one run.
-.PHONY: run tool install check-install test bench
+.PHONY: run tool install check-install test soak bench
 
 CC ?= gcc
 CFLAGS = -std=c11 -O2 -Wall -Wextra -Wpedantic -Werror
@@ -48,6 +49,13 @@ build:
 
 test:
 	bash .ci/run
+
+CALLS ?= 1000000
+SEED ?= 1
+soak: $(ARCHIVE)
+	CARGO_TARGET_DIR=build/crosscheck DECKLEWREN_ARCHIVE_DIR="$(CURDIR)/target/staticlib" \
+	  cargo build --release --offline --locked --quiet --manifest-path crosscheck/Cargo.toml
+	build/crosscheck/release/crosscheck soak crosscheck/tables $(CALLS) $(SEED)
 
 bench: build/bench
 	build/bench

@@ -2,7 +2,8 @@
 //! drives the archive and the built program call by call and compares.
 //!
 //! `crosscheck TABLES_DIR PRINTER_PATH TOOL_PATH` runs all tests; a test's name behind it runs that one, and
-//! `traced` behind the name prints each call before it is made.
+//! `traced` behind the name prints each call before it is made. `crosscheck soak TABLES_DIR CALLS
+//! SEED` makes so many calls of each kind; `traced` behind it prints them too.
 
 mod archive;
 mod bits;
@@ -44,6 +45,8 @@ mod samples;
 mod scrambler;
 mod second;
 mod slots;
+mod soak;
+mod soak_requests;
 mod tables;
 mod tool;
 mod training;
@@ -52,6 +55,9 @@ mod worked_burst;
 
 use report::Given;
 use std::{env, process::ExitCode};
+
+/// The first argument that asks for the soak in the place of the tests.
+const SOAK: &str = "soak";
 
 fn main() -> ExitCode {
     let arguments: Vec<String> = env::args().skip(1).collect();
@@ -74,6 +80,9 @@ fn main() -> ExitCode {
     ]
     .concat();
     let (given, chosen) = match arguments.as_slice() {
+        [mode, tables, rest @ ..] if mode == SOAK => {
+            return soak::run(tables, rest).unwrap_or_else(wrong_use);
+        }
         [tables, printer, tool, chosen @ ..] => (Given::new(tables, printer, tool), chosen),
         _ => return wrong_use(),
     };
@@ -86,9 +95,8 @@ fn main() -> ExitCode {
 }
 
 fn wrong_use() -> ExitCode {
-    eprintln!(
-        "use: crosscheck TABLES_DIR PRINTER_PATH TOOL_PATH [TEST [{}]]",
-        report::TRACED
-    );
+    let traced = report::TRACED;
+    eprintln!("use: crosscheck TABLES_DIR PRINTER_PATH TOOL_PATH [TEST [{traced}]]");
+    eprintln!("     crosscheck {SOAK} TABLES_DIR CALLS SEED [{traced}]");
     ExitCode::from(2)
 }

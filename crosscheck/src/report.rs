@@ -48,6 +48,22 @@ pub struct Test {
 }
 
 impl Test {
+    pub fn new(traced: bool) -> Test {
+        Test {
+            cases: 0,
+            failed: 0,
+            traced,
+        }
+    }
+
+    pub fn cases(&self) -> usize {
+        self.cases
+    }
+
+    pub fn failed(&self) -> usize {
+        self.failed
+    }
+
     /// One case. Its calls are made one after another, up to the first that does not show what is
     /// expected.
     pub fn case<T: Debug + PartialEq>(
@@ -131,11 +147,7 @@ pub fn run_one(tests: &[NamedTest], given: &Given, name: &str, traced: bool) -> 
         println!("FAIL {name}: no such test");
         return exit_code(false);
     };
-    let mut test = Test {
-        cases: 0,
-        failed: 0,
-        traced,
-    };
+    let mut test = Test::new(traced);
     let ending = panic::catch_unwind(AssertUnwindSafe(|| run(given, &mut test)));
     let Test { cases, failed, .. } = test;
     match ending {
@@ -162,7 +174,7 @@ fn words_of(reason: &(dyn Any + Send)) -> &str {
         .unwrap_or("without a message")
 }
 
-fn exit_code(good: bool) -> ExitCode {
+pub fn exit_code(good: bool) -> ExitCode {
     if good {
         ExitCode::SUCCESS
     } else {
