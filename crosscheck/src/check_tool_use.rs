@@ -296,6 +296,11 @@ fn tool_works_in_pipes(given: &Given, test: &mut Test) {
             [shell(given, &script)],
         );
     }
+    let of_the_readme = "printf '5d 00 0e 0000000100000000 00 6f6b' | D write-slot 6 -x |
+      D damage 1 --seed 7 | D read-slot | D step";
+    let printed = shell(given, of_the_readme);
+    let expected = ("0 14\n".to_string(), Some(0));
+    test.case(|| "the README's pipe".into(), expected, [printed]);
     let printed = shell(given, "D word 5 | D damage 7 | D read-word");
     test.case(|| "word 5".into(), ("5\n".to_string(), Some(0)), [printed]);
 }
