@@ -8,7 +8,7 @@
 enum { TEXT = 12 };
 
 /* Bits of the longest slot burst, and the bytes that its link holds. */
-enum { BURST = 1504, HELD = 128 };
+enum { BURST = DECKLEWREN_BURST_MOST, HELD = DECKLEWREN_HELD_7 };
 
 /* Lays a short data message from source 1 to all stations at a position and answers where it ends. */
 static size_t lay_message(uint8_t *datagram, size_t position, const char *text) {
