@@ -18,6 +18,7 @@ pub const TESTS: &[NamedTest] = named_tests![
     tool_helps,
     tool_refuses_wrong_usage,
     tool_works_in_pipes,
+    tool_runs_the_pipe_of_the_readme,
     tool_fails_where_output_fails,
 ];
 
@@ -296,13 +297,16 @@ fn tool_works_in_pipes(given: &Given, test: &mut Test) {
             [shell(given, &script)],
         );
     }
+    let printed = shell(given, "D word 5 | D damage 7 | D read-word");
+    test.case(|| "word 5".into(), ("5\n".to_string(), Some(0)), [printed]);
+}
+
+fn tool_runs_the_pipe_of_the_readme(given: &Given, test: &mut Test) {
     let of_the_readme = "printf '5d 00 0e 0000000100000000 00 6f6b' | D write-slot 6 -x |
       D damage 1 --seed 7 | D read-slot | D step";
     let printed = shell(given, of_the_readme);
     let expected = ("0 14\n".to_string(), Some(0));
     test.case(|| "the README's pipe".into(), expected, [printed]);
-    let printed = shell(given, "D word 5 | D damage 7 | D read-word");
-    test.case(|| "word 5".into(), ("5\n".to_string(), Some(0)), [printed]);
 }
 
 /// A full disk is told, for short and long outputs, and a closed input too.
