@@ -1,5 +1,6 @@
 /* Compares the library with the plain writer of plain.c, both in one run: nanoseconds per block, median of many rounds, and the
-   ratio. Also measures the stack that a call needs, by painting it. */
+   ratio. The blocks of a round are all different, so that a processor cannot learn their bits. Also measures the stack that a call
+   needs, by painting it. */
 #define _POSIX_C_SOURCE 200809L
 #include "decklewren.h"
 #include "plain.h"
@@ -9,9 +10,9 @@
 #include <string.h>
 #include <time.h>
 
-enum { ROUNDS = 301, LONGEST = 12855, PAINTED = 262144 };
+enum { ROUNDS = 301, MOST = 200, LONGEST = 12855, PAINTED = 262144 };
 
-static uint8_t datagram[698], plain_image[LONGEST], image[LONGEST], came[LONGEST], out[698];
+static uint8_t datagrams[MOST][698], came[MOST][LONGEST], plain_image[LONGEST], image[LONGEST], out[698];
 static size_t came_length;
 static decklewren_block block;
 
@@ -26,21 +27,21 @@ static int by_size(const void *a, const void *b) {
     return (x > y) - (x < y);
 }
 
-/* A call that is measured, on a link whose datagrams have `held` bytes. */
-typedef void call(uint32_t link, size_t held);
+/* A call that is measured, on a link whose datagrams have `held` bytes: the call number i of a round. */
+typedef void call(uint32_t link, size_t held, int i);
 
-static void write_plain(uint32_t link, size_t held) { plain_write_block(link, datagram, held, plain_image); }
-static void write_proved(uint32_t link, size_t held) { decklewren_write_block(link, datagram, held, image, sizeof image); }
-static void read_proved(uint32_t link, size_t held) { block = decklewren_read_block(link, came, came_length, out, held); }
+static void write_plain(uint32_t link, size_t held, int i) { plain_write_block(link, datagrams[i], held, plain_image); }
+static void write_proved(uint32_t link, size_t held, int i) { decklewren_write_block(link, datagrams[i], held, image, sizeof image); }
+static void read_proved(uint32_t link, size_t held, int i) { block = decklewren_read_block(link, came[i], came_length, out, held); }
 
 /* The median of the rounds of the plain writer and of a call, a round of one and of the other in turn. */
 static void measure(uint32_t link, size_t held, int blocks, call *measured) {
     static double a[ROUNDS], b[ROUNDS];
     for (int round = 0; round < ROUNDS; round++) {
         double start = now();
-        for (int i = 0; i < blocks; i++) write_plain(link, held);
+        for (int i = 0; i < blocks; i++) write_plain(link, held, i);
         double middle = now();
-        for (int i = 0; i < blocks; i++) measured(link, held);
+        for (int i = 0; i < blocks; i++) measured(link, held, i);
         a[round] = (middle - start) / blocks;
         b[round] = (now() - middle) / blocks;
     }
@@ -52,12 +53,12 @@ static void measure(uint32_t link, size_t held, int blocks, call *measured) {
 
 static void *call_nothing(void *unused) { return unused; }
 static void *call_write(void *unused) {
-    write_proved(19, 698);
+    write_proved(19, 698, 0);
     return unused;
 }
 
 static void *call_read(void *unused) {
-    read_proved(19, 698);
+    read_proved(19, 698, 0);
     return unused;
 }
 
@@ -76,22 +77,31 @@ static size_t disturbed(void *(*call)(void *)) {
 }
 
 static void measure_writing(uint32_t link, size_t held, int blocks) {
-    write_plain(link, held);
-    write_proved(link, held);
-    if (memcmp(plain_image, image, sizeof image) != 0) {
-        printf("link %u: the two images differ\n", (unsigned)link);
-        exit(1);
+    for (int i = 0; i < blocks; i++) {
+        write_plain(link, held, i);
+        write_proved(link, held, i);
+        if (memcmp(plain_image, image, sizeof image) != 0) {
+            printf("link %u: the two images differ\n", (unsigned)link);
+            exit(1);
+        }
     }
     printf("write link %2u:                 ", (unsigned)link);
     measure(link, held, blocks, write_proved);
 }
 
-/* Reads what came, which must give this status and this count of wrong places, and then measures it. */
+/* Inverts a place of all that came. */
+static void damage(int blocks, size_t place) {
+    for (int i = 0; i < blocks; i++) came[i][place] ^= 1;
+}
+
+/* Reads all that came, each of which must give this status and this count of wrong places, and then measures it. */
 static void measure_reading(const char *what, uint32_t link, size_t held, int blocks, uint32_t status, uint32_t wrong) {
-    read_proved(link, held);
-    if (block.status != status || block.wrong != wrong) {
-        printf("link %u, %s: status %u, wrong %u\n", (unsigned)link, what, (unsigned)block.status, (unsigned)block.wrong);
-        exit(1);
+    for (int i = 0; i < blocks; i++) {
+        read_proved(link, held, i);
+        if (block.status != status || block.wrong != wrong) {
+            printf("link %u, %s: status %u, wrong %u\n", (unsigned)link, what, (unsigned)block.status, (unsigned)block.wrong);
+            exit(1);
+        }
     }
     printf("read  link %2u, %-16s", (unsigned)link, what);
     measure(link, held, blocks, read_proved);
@@ -99,27 +109,33 @@ static void measure_reading(const char *what, uint32_t link, size_t held, int bl
 
 /* The first bit of an image is the block's first, whose residue is found last; on links 5 and 19 the second is the first clock's Y1. */
 static void measure_all_reading(uint32_t link, size_t held, int blocks) {
-    came_length = decklewren_write_block(link, datagram, held, came, sizeof came).count;
+    for (int i = 0; i < blocks; i++) {
+        came_length = decklewren_write_block(link, datagrams[i], held, came[i], sizeof came[i]).count;
+    }
     measure_reading("clean:", link, held, blocks, 0, 0);
-    came[0] ^= 1;
+    damage(blocks, 0);
     measure_reading("data bit wrong:", link, held, blocks, 0, 1);
-    came[1] ^= 1;
+    damage(blocks, 1);
     measure_reading("two wrong:", link, held, blocks, 7, 0);
-    came[0] ^= 1;
+    damage(blocks, 0);
     measure_reading("parity wrong:", link, held, blocks, 0, 1);
-    for (size_t i = 0; i < came_length; i++) came[i] = (uint8_t)(rand() >> 8 & 1);
+    for (int i = 0; i < blocks; i++) {
+        for (size_t at = 0; at < came_length; at++) came[i][at] = (uint8_t)(rand() >> 8 & 1);
+    }
     measure_reading("random bits:", link, held, blocks, 7, 0);
 }
 
 int main(void) {
-    for (size_t i = 0; i < sizeof datagram; i++) datagram[i] = (uint8_t)(i * 37 + 11);
-    measure_writing(5, 32, 200);
+    for (int i = 0; i < MOST; i++) {
+        for (size_t at = 0; at < sizeof datagrams[i]; at++) datagrams[i][at] = (uint8_t)(rand() >> 8);
+    }
+    measure_writing(5, 32, MOST);
     measure_writing(19, 698, 10);
-    measure_all_reading(5, 32, 200);
+    measure_all_reading(5, 32, MOST);
     measure_all_reading(19, 698, 10);
     size_t none = disturbed(call_nothing);
     printf("stack of a write: %zu bytes\n", disturbed(call_write) - none);
-    came_length = decklewren_write_block(19, datagram, 698, came, sizeof came).count;
+    came_length = decklewren_write_block(19, datagrams[0], 698, came[0], sizeof came[0]).count;
     printf("stack of a read:  %zu bytes\n", disturbed(call_read) - none);
     return 0;
 }

@@ -7,7 +7,7 @@ use Prim.Native.Nat.{ℕ, _+_, _*_, _/_, _%_, _^_, _<_, _≤_}
 use native.Mathlib.Nat.{zero-add}
 use native.Mathlib.Numerals.{add-one}
 use native.Mathlib.Omega.{arith}
-use lib.Bits.{bitXor, xor-block, xor-self, xor-lt}
+use lib.Bits.{bitXor, xor-block, xor-self, xor-lt, xor-zero-r}
 use lib.Dec.{lit<}
 use lib.ListN.{length, getD, drop, drop-of-length-le}
 use lib.Seq.{drop-cons}
@@ -44,8 +44,30 @@ module _ (r : ℕ) (h : r < 2 ^ 32) where
       ∙ ap (λ (x : ℕ). moved ⊕ x) (ap (λ (x : ℕ). x * x32) (ap (bitXor top) e ∙ ⊕-is top (byte b)) ∙ ⊕-times x32 top (byte b) (omega arith) (byte-lt b))
       ∙ simp (timesX-word, ⊕-comm, ⊕-left-comm)
 
-  pub product-fits : (bit : ℕ) → bit < 2 → bitXor top bit * x32 < 2 ^ 32
-  product-fits bit l = omega (arith, xor-lt 1 top bit (omega arith) l)
+  -- ---- as code computes it: the bit is added to the top one, and then the register moves up
+  module _ (b : Bool) (bit : ℕ) (e : bit ≡ byte b) where
+    abbrev fed : ℕ
+    fed = bitXor r (bit * 2 ^ 31 % 2 ^ 32)
+
+    small : bitXor top bit < 2
+    small = xor-lt 1 top bit (omega arith) (omega (arith, e, byte-lt b))
+
+    fed-is : fed ≡ bitXor top bit * 2 ^ 31 + r % 2 ^ 31
+    fed-is =
+        let register : r ≡ top * 2 ^ 31 + r % 2 ^ 31 = omega arith in
+        let added : bit * 2 ^ 31 % 2 ^ 32 ≡ bit * 2 ^ 31 + 0 = omega (arith, e, byte-lt b) in
+        ap₂ bitXor register added ∙ xor-block 31 top bit (r % 2 ^ 31) 0 (omega arith) (omega arith) ∙ ap (λ (x : ℕ). bitXor top bit * 2 ^ 31 + x) (xor-zero-r (r % 2 ^ 31))
+
+    fed-top : fed / 2 ^ 31 ≡ bitXor top bit
+    fed-top = omega (arith, fed-is, small)
+
+    pub fed-fits : fed / 2 ^ 31 * x32 < 2 ^ 32
+    fed-fits = omega (arith, fed-top, small)
+
+    pub fed-word : bitXor (fed * 2 % 2 ^ 32) (fed / 2 ^ 31 * x32) ≡ step r b
+    fed-word =
+        let up : fed * 2 % 2 ^ 32 ≡ moved = omega (arith, fed-is, small) in
+        ap₂ (λ (x y : ℕ). bitXor x (y * x32)) up fed-top ∙ step-word b bit e
 
   pub step-lt : (b : Bool) → step r b < 2 ^ 32
   unfolding step

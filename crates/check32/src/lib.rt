@@ -5,12 +5,12 @@ ghost use Rattle.bits.specs.Bits.{isOne};
 ghost use Rattle.check32.specs.Check.{step, register};
 ghost use Rattle.check32.specs.Residue.{bitsAfter};
 
-// One bit goes into the register, which moves up a place; the generator is added where the bit that falls out differs from it.
+// One bit goes into the register at its high end, and the register moves up a place; the generator is added where a one falls out.
 pub fn step(r: u32, bit: bool) -> u32
     ensures { λ v. ⌜ v ≡ step r bit ⌝ }
 {
-    let differs = (r >> 31) ^ (bit as u32);
-    (r << 1) ^ (differs * 0x04C11DB7)
+    let fed = r ^ ((bit as u32) << 31);
+    (fed << 1) ^ ((fed >> 31) * 0x04C11DB7)
 }
 
 // The register after a row of bits, one to a byte: 0 where the row closes.
