@@ -61,8 +61,8 @@ module _ (r : ℕ) (h : r < 2 ^ 32) where
     fed-top : fed / 2 ^ 31 ≡ bitXor top bit
     fed-top = omega (arith, fed-is, small)
 
-    pub fed-fits : fed / 2 ^ 31 * x32 < 2 ^ 32
-    fed-fits = omega (arith, fed-top, small)
+    pub fed-low : fed / 2 ^ 31 < 2
+    fed-low = omega (arith, fed-top, small)
 
     pub fed-word : bitXor (fed * 2 % 2 ^ 32) (fed / 2 ^ 31 * x32) ≡ step r b
     fed-word =

@@ -5,7 +5,7 @@ use native.Mathlib.Omega.{arith}
 use mir.Val.{boolByte}
 use borrow.Author.Needs.{needs}
 use Rattle.bits.specs.Bits.{byte}
-use Rattle.check32.proofs.Word.{fed-fits, fed-word}
+use Rattle.check32.proofs.Word.{fed-low, fed-word}
 use Rattle.check32.proofs.step.Statement.{statement}
 use Rattle.check32.proofs.step.Tie as tie
 
@@ -18,7 +18,7 @@ cast-fed : tie.Need-cast-fed
 cast-fed c = search needs
 
 mul-result : tie.Need-mul-result
-mul-result c = record { fits = fed-fits (c .args .r) (omega arith) (c .args .bit) (boolByte (c .args .bit)) (cast (c .args .bit)) }
+mul-result c = record { fits = omega (arith, fed-low (c .args .r) (omega arith) (c .args .bit) (boolByte (c .args .bit)) (cast (c .args .bit))) }
 
 returns : tie.Need-returns
 returns c = fed-word (c .args .r) (omega arith) (c .args .bit) (boolByte (c .args .bit)) (cast (c .args .bit))
