@@ -139,11 +139,12 @@ pub fn read(link: u32, bits: &[u8], out: &mut [u8]) -> Block
     if place >= 22 {
         return refuse(1);
     }
-    if bits.len() != links::image_length_at(place) {
+    let row = links::row_at(place);
+    let other_length = bits.len() != links::image_length_at(place);
+    let short = out.len() < links::bytes_held(row);
+    if other_length {
         return refuse(2);
     }
-    let row = links::row_at(place);
-    let short = out.len() < links::bytes_held(row);
     let all = bits::all_bits(bits);
     if short {
         return refuse(3);

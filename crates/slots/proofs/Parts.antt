@@ -3,12 +3,13 @@
 use mathlib.Core.Path.{_≡_, sym, ap, _∙_}
 use mathlib.Core.Bool.{Bool, true}
 use mathlib.Core.List.{List, _++_, map, append-assoc}
-use Prim.Native.Nat.{ℕ}
+use Prim.Native.Nat.{ℕ, _≤_}
 use native.Mathlib.Omega.{arith}
-use lib.ListN.{length, take, drop, length-map, length-append}
-use lib.Seq.{take-at, drop-at}
-use Rattle.lists.proofs.Parts.{map-take, map-drop}
-use Rattle.bits.specs.Bits.{isOne, byte}
+use lib.ListN.{length, take, drop, length-map, length-append, length-drop}
+use lib.Seq.{take-at, drop-at, length-take-le, take-take}
+use Rattle.lists.proofs.Every.{every-take, every-drop}
+use Rattle.lists.proofs.Parts.{map-take, map-drop, drop-take}
+use Rattle.bits.specs.Bits.{isOne, byte, allBits}
 use Rattle.bits.proofs.Bits.{bits-bytes}
 use Rattle.bits.specs.Row.{differences}
 use Rattle.bits.proofs.Differences.{differences-self}
@@ -16,7 +17,7 @@ use Rattle.bits.proofs.Row.{length-highFirst}
 use Rattle.blocks.specs.Block.{blockOf, imageOf}
 use Rattle.links.specs.Rows.{rowOf}
 use Rattle.words.specs.Word.{wordOf, wordBits}
-use Rattle.slots.specs.Burst.{training, trainingLength, headLength, trainingPart, wordPart, blockPart, isSlotLink, headOf, burstOf}
+use Rattle.slots.specs.Burst.{training, trainingLength, headLength, headPart, trainingPart, wordPart, blockPart, isSlotLink, headOf, burstOf}
 use Rattle.slots.specs.Near.{NearHead}
 use Rattle.slots.proofs.HeadLaid.{length-head}
 use Rattle.slots.proofs.Links.{slot-has-word}
@@ -35,6 +36,18 @@ module _ (came : List Bool) where
 
   pub rest-back : map isOne (blockPart (map byte came)) ≡ blockPart came
   rest-back = ap (map isOne) rest-of-bytes ∙ bits-bytes (blockPart came)
+
+-- ---- what is known of a head is known of its parts
+module _ (burst : List ℕ) where
+  pub word-long : headLength ≤ length burst → length (wordPart burst) ≡ 32
+  word-long h = length-take-le 32 (drop trainingLength burst) (omega (arith, h, length-drop trainingLength burst))
+
+  pub training-bits : allBits (headPart burst) ≡ true → allBits (trainingPart burst) ≡ true
+  training-bits e =
+      ap allBits (sym (take-take trainingLength headLength burst (omega arith))) ∙ every-take _ trainingLength (headPart burst) e
+
+  pub word-bits : allBits (headPart burst) ≡ true → allBits (wordPart burst) ≡ true
+  word-bits e = ap allBits (sym (drop-take trainingLength headLength burst)) ∙ every-drop _ trainingLength (headPart burst) e
 
 -- ---- the parts of a head with something behind it
 length-head-bits : (link : ℕ) → length (headOf link) ≡ headLength

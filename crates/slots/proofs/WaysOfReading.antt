@@ -7,13 +7,10 @@ use mathlib.Core.List.{List, map}
 use Prim.Native.Nat.{ℕ, _<_, _≤_}
 use native.Mathlib.Omega.{arith}
 use lib.Dec.{eqb, ltb}
-use lib.ListN.{length, drop, length-map, length-drop}
-use lib.Seq.{length-take-le}
+use lib.ListN.{length, length-map, length-drop}
 use borrow.Author.Tests.{eqb-true, eqb-false, ltb-true, ltb-false}
 use Rattle.answers.specs.Numbers.{notOffered, wrongLength, noRoom, noBit, noTraining, noWord, noBlock}
 use Rattle.answers.specs.Outcome.{Outcome}
-use Rattle.lists.proofs.Every.{every-drop}
-use Rattle.lists.proofs.Parts.{drop-take}
 use Rattle.bits.specs.Bits.{isOne, byte, allBits}
 use Rattle.bits.specs.Row.{differences}
 use Rattle.bits.proofs.Differences.{differences-self, differences-zero}
@@ -32,7 +29,7 @@ use Rattle.slots.specs.Near.{Near}
 use Rattle.slots.specs.Calls.{trainingWrong, slotWord, readHead, refused, reading, both, joined, readSlot}
 use Rattle.slots.proofs.Calls.{word-refused, word-no-slot, word-slot, head-short, head-no-bit, head-no-training, head-word, read-refused, read-joined}
 use Rattle.slots.proofs.Links.{slot-offered}
-use Rattle.slots.proofs.Parts.{part-back, rest-back}
+use Rattle.slots.proofs.Parts.{part-back, rest-back, word-long, word-bits}
 
 -- the head is there, made of bits, with the training
 pub record Trained (burst : List ℕ) : Type 0 where
@@ -90,14 +87,8 @@ module _ (burst : List ℕ) (room : ℕ) where
     rest-goes (b.none-near o s r a f e) = none-near link wrong h (record { size = s; fits = r }) a f (is-joined e)
     rest-goes (b.reads o s r a u n e) = reads link wrong h (record { size = s; fits = r }) a u n (is-joined e)
 
-  -- the word of a head that is there and made of bits is, too
+  -- what the word of a head with its training is read as
   module _ (t : Trained burst) (tried : readHead burst ≡ slotWord (readWord (wordPart burst))) where
-    word-long : length (wordPart burst) ≡ 32
-    word-long = length-take-le 32 (drop trainingLength burst) (omega (arith, t .long, length-drop trainingLength burst))
-
-    word-bits : allBits (wordPart burst) ≡ true
-    word-bits = ap allBits (sym (drop-take trainingLength headLength burst)) ∙ every-drop _ trainingLength (headPart burst) (t .bits)
-
     slot-goes : (link wrong : ℕ) → Named burst link wrong → (slot : Bool) → isSlotLink link ≡ slot → Reading burst room
     slot-goes link wrong n true s =
         let head = tried ∙ ap slotWord (n .read) ∙ word-slot (found link wrong) refl s in
@@ -106,8 +97,8 @@ module _ (burst : List ℕ) (room : ℕ) where
         no-slot link wrong n s (head-refuses notOffered (λ z. omega (arith, z)) (tried ∙ ap slotWord (n .read) ∙ word-no-slot (found link wrong) refl s))
 
     word-goes : w.Reading (wordPart burst) → Reading burst room
-    word-goes (w.no-length l e) = absurd (l word-long)
-    word-goes (w.no-bits l a e) = absurd (true≢false (sym word-bits ∙ a))
+    word-goes (w.no-length l e) = absurd (l (word-long burst (t .long)))
+    word-goes (w.no-bits l a e) = absurd (true≢false (sym (word-bits burst (t .bits)) ∙ a))
     word-goes (w.none-near l a f e) = no-word t f (head-refuses noWord (λ z. omega (arith, z)) (tried ∙ ap slotWord e ∙ word-refused (refusedWord noWord) (λ z. omega (arith, z))))
     word-goes (w.reads l a link wrong n e) = slot-goes link wrong (record { trained = t; near = n; read = e }) (isSlotLink link) refl
 

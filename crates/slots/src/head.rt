@@ -8,7 +8,7 @@ ghost use lib.ListN.{length};
 ghost use Rattle.lists.specs.Over.{over};
 ghost use Rattle.bits.specs.Bits.{byte};
 ghost use Rattle.slots.specs.Burst.{isSlotLink, headOf};
-ghost use Rattle.slots.specs.Calls.{slotWord, readHead};
+ghost use Rattle.slots.specs.Calls.{readHead};
 
 // Whether a link has slot bursts.
 pub fn is_slot_link(link: u32) -> bool
@@ -26,19 +26,6 @@ pub fn lay(link: u32, out: &mut [u8])
     bits::lay_row(words::word_of(link), out, 54);
 }
 
-// A word that was read, or refusal 1 where it is not that of a slot link.
-fn slot_word(word: Word) -> Word
-    ensures { λ r. ⌜ r ≡ slotWord word ⌝ }
-{
-    if word.status != 0 {
-        return word;
-    }
-    if !is_slot_link(word.number) {
-        return words::refuse(1);
-    }
-    word
-}
-
 // Reads the head of a slot burst: its link and the link word's own wrong.
 pub fn read(burst: &[u8]) -> Word
     ensures { λ r. ⌜ r ≡ readHead (now (burst .entry)) ⌝ }
@@ -49,8 +36,17 @@ pub fn read(burst: &[u8]) -> Word
     if !bits::all_bits(&burst[..86]) {
         return words::refuse(4);
     }
-    if training::wrong(&burst[..54]) != 0 {
+    let trained = training::wrong(&burst[..54]) == 0;
+    let word = words::read(&burst[54..86]);
+    let named = word.status == 0;
+    if !trained {
         return words::refuse(5);
     }
-    slot_word(words::read(&burst[54..86]))
+    if !named {
+        return words::refuse(6);
+    }
+    if !is_slot_link(word.number) {
+        return words::refuse(1);
+    }
+    word
 }
