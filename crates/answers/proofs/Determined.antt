@@ -5,14 +5,15 @@ use mathlib.Core.List.{List}
 use Prim.Native.Nat.{ℕ}
 use lib.ListN.{length, take, drop}
 use lib.Seq.{take-at, drop-at}
-use Rattle.answers.specs.Outcome.{Outcome, laid, Wrote}
+use Rattle.answers.specs.Outcome.{Outcome, Wrote}
 
 -- an answer's count is the number of bytes that are laid
 abbrev pub Counted : {Answer : Type 0} → (Answer → ℕ) → Outcome Answer → Type 0
 Counted count outcome = length (outcome .bytes) ≡ count (outcome .answer)
 
 module _ {Answer : Type 0} (count : Answer → ℕ) (outcome : Outcome Answer) (counted : Counted count outcome) where
-  length-written : {old new : List ℕ} {answer : Answer} → Wrote outcome old new answer → length (outcome .bytes) ≡ count answer
+  -- and so many are laid
+  pub length-written : {old new : List ℕ} {answer : Answer} → Wrote outcome old new answer → length (outcome .bytes) ≡ count answer
   length-written w = counted ∙ ap count (sym (w .answers))
 
   -- the bytes at the buffer's start are the outcome's

@@ -1,3 +1,3 @@
 pub mod Determined
 pub mod Task
-pub mod Writing
+pub mod Wrote

@@ -9,7 +9,7 @@ use lib.Dec.{T, leb}
 use lib.ListN.{length}
 use borrow.Author.Tests.{le-leb, lt-leb}
 use Rattle.answers.specs.Numbers.{noBlock}
-use Rattle.answers.specs.Outcome.{Outcome, laid, Wrote}
+use Rattle.answers.specs.Outcome.{Outcome, laid}
 use Rattle.lists.specs.Over.{over}
 use Rattle.lists.proofs.Over.{over-zero}
 use Rattle.bits.specs.Bits.{isOne, byte}
@@ -28,17 +28,8 @@ use Rattle.blocks.specs.declared.Block.{Block}
 use Rattle.blocks.specs.Block.{imageOf, datagramOf}
 use Rattle.blocks.specs.Coding.{codingOf}
 use Rattle.blocks.specs.Calls.{refused, reading, answered}
-use Rattle.blocks.specs.Reading.{found, Mends}
+use Rattle.blocks.specs.Reading.{Mends}
 use Rattle.blocks.proofs.Sound.{sound, image-is}
-
--- ---- the relation of the contract: it refused and changed nothing, or it laid the datagram at the buffer's start
-module _ {outcome : Outcome Block} {answer : Block} where
-  pub refuses : (number : ℕ) (old : List ℕ) → outcome ≡ refused number → answer ≡ refused number .answer → Wrote outcome old old answer
-  refuses number old e a = rw (e, a) (record { answers = refl; leaves = refl })
-
-  pub reads : (datagram : List ℕ) (wrong count : ℕ) (old new : List ℕ) → outcome ≡ reading datagram wrong → length datagram ≡ count → answer ≡ found count wrong → new ≡ laid datagram old
-      → Wrote outcome old new answer
-  reads datagram wrong count old new e l a p = rw (e, a) (record { answers = rw l; leaves = p })
 
 -- the datagram of a block, laid as bytes are packed
 pub length-datagram : (row : Row) (u : List Bool) → length (datagramOf row u) ≡ bytesHeld row

@@ -27,10 +27,8 @@ head-long burst {head} e z = decided (ltb (length burst) headLength) refl
     decided false s = ltb-false (length burst) headLength s
 
 module _ (burst old : List ℕ) {head : Word} (e : head ≡ readHead burst) where
-  pub refuses : (head .status ≡ done → ⊥) → {answer : Slot} → answer ≡ refused (head .status) .answer → Wrote (readSlot burst (length old)) old old answer
-  refuses h a =
-      let status = ap (λ (w : Word). w .status) e in
-      rw (read-refused burst (length old) (λ z. h (status ∙ z)), a ∙ ap (λ (n : ℕ). refused n .answer) status) (record { answers = refl; leaves = refl })
+  pub head-refused : (head .status ≡ done → ⊥) → readSlot burst (length old) ≡ refused (head .status)
+  head-refused h = rw (e) (read-refused burst (length old) (rw e at h))
 
   pub joins : head .status ≡ done → (rest : List ℕ) → rest ≡ drop headLength burst → (new : List ℕ) {block : Block}
       → Wrote (readBlock (head .number) rest (length old)) old new block → {answer : Slot} → answer ≡ both head block → Wrote (readSlot burst (length old)) old new answer

@@ -9,9 +9,9 @@ use lib.Dec.{T}
 use lib.ListN.{length, take, drop, length-map, length-append, length-drop}
 use Rattle.answers.specs.declared.Written.{Written}
 use Rattle.answers.specs.Written.{wrote}
-use Rattle.answers.specs.Outcome.{Outcome, laid, Wrote, writing}
+use Rattle.answers.specs.Outcome.{laid, Wrote, writing}
 use Rattle.answers.proofs.Task.{write-done}
-use Rattle.answers.proofs.Writing.{writes}
+use Rattle.answers.proofs.Wrote.{lays, told, held}
 use Rattle.lists.specs.Over.{over}
 use Rattle.lists.proofs.Over.{over-length}
 use Rattle.lists.proofs.Parts.{part-rest}
@@ -61,12 +61,10 @@ module _ (link : ℕ) (o : isSlotLink link ≡ true) (datagram : List ℕ) (fits
     block-laid = write-done (blockTask link datagram) (length (behindHead mid)) (slot-offered link o) fits enough
 
     pub counted : block .count ≡ imageLength (rowOf link)
-    counted = ap (λ (w : Written). w .count) (rest .answers) ∙ ap (λ (w : Outcome Written). w .answer .count) block-laid ∙ long-image
+    counted = told rest (λ (w : Written). w .count) block-laid ∙ long-image
 
     pub written : {answer : Written} → answer ≡ wrote (headLength + block .count)
         → Wrote (writeSlot link datagram (length old)) old (take headLength mid ++ (part ++ drop (length mid - headLength) (drop headLength mid))) answer
     written a =
-        let second = rest .leaves ∙ ap (λ (w : Outcome Written). laid (w .bytes) (behindHead mid)) block-laid in
-        let bytes = map byte (burstOf link datagram) in
-        writes bytes old _ (headLength + block .count) (write-done (slotTask link datagram) (length old) o fits room) (omega (arith, long-burst, counted)) a
-        (part-laid (map byte (headOf link)) image old mid part headLength (length-head link) head second ∙ ap (λ (l : List ℕ). laid l old) (sym burst-parts))
+        lays (write-done (slotTask link datagram) (length old) o fits room) (a ∙ ap wrote (omega (arith, long-burst, counted)))
+        (part-laid (map byte (headOf link)) image old mid part headLength (length-head link) head (held rest block-laid) ∙ ap (λ (l : List ℕ). laid l old) (sym burst-parts))

@@ -1,5 +1,5 @@
 -- All three refusals come before the first byte is laid. Assumes nothing.
-use mathlib.Core.Path.{_≡_, sym, ap, _∙_}
+use mathlib.Core.Path.{_≡_, ap, _∙_}
 use mathlib.Core.List.{List, map}
 use Prim.Native.Nat.{ℕ, _+_, _<_, _≤_}
 use native.Mathlib.Nat.{zero-add}
@@ -7,8 +7,9 @@ use native.Mathlib.Omega.{arith}
 use lib.Dec.{T}
 use lib.ListN.{length, getD, length-map}
 use borrow.Author.Needs.{needs}
+use Rattle.answers.specs.Written.{wrote}
 use Rattle.answers.proofs.Task.{write-unoffered, write-long, write-short, write-done}
-use Rattle.answers.proofs.Writing.{refuses, writes}
+use Rattle.answers.proofs.Wrote.{refuses, lays}
 use Rattle.lists.proofs.Over.{over-zero}
 use Rattle.bits.specs.Bits.{byte}
 use Rattle.links.specs.declared.Row.{Row}
@@ -46,7 +47,7 @@ refuse-requires c κs = search needs
 returns : tie.Need-returns
 returns c =
     let a = c .before .before .before .before .before .args in
-    refuses 1 (a .out .now)
+    refuses
     (write-unoffered (blockTask (a .link) (a .datagram .now)) (length (a .out .now)) (found-none (a .link) (c .before .before .place-of .ensures) (c .before .if1 .taken)))
     (c .refuse .ensures)
 
@@ -67,7 +68,7 @@ returns-2 c =
     let found = c .before .before .before .before .before .place-of .ensures in
     let inside = c .before .before .before .before .if1 .left in
     let held = held-is (a .link) found inside (c .before .before .before .row-at .ensures) in
-    refuses 2 (a .out .now)
+    refuses
     (write-long (blockTask (a .link) (a .datagram .now)) (length (a .out .now)) (found-offered (a .link) found inside) (omega (arith, c .before .if2 .taken, c .before .before .bytes-held .ensures, held)))
     (c .refuse2 .ensures)
 
@@ -84,7 +85,7 @@ returns-3 c =
     let inside = c .before .before .before .before .before .before .if1 .left in
     let held = held-is (a .link) found inside (c .before .before .before .before .before .row-at .ensures) in
     let size = c .before .before .image-length-at .ensures ∙ ap imageLength (found-row (a .link) found) in
-    refuses 3 (a .out .now)
+    refuses
     (write-short (blockTask (a .link) (a .datagram .now)) (length (a .out .now)) (found-offered (a .link) found inside)
     (omega (arith, c .before .before .before .if2 .left, c .before .before .before .before .bytes-held .ensures, held))
     (omega (arith, c .before .if3 .taken, size)))
@@ -125,12 +126,11 @@ returns-4 c =
     let size = c .before .before .before .before .before .before .image-length-at .ensures ∙ ap imageLength (found-row link found) in
     let laid = rw row at (c .before .before .before .write-row .ensures) in
     let bytes = map byte (imageOf (rowOf link) (blockOf (rowOf link) (a .datagram .now))) in
-    writes bytes (a .out .now) (c .before .before .before .write-row .last .1 .1 .0) (c .before .before .before .write-row .result)
+    lays
     (write-done (blockTask link (a .datagram .now)) (length (a .out .now)) (found-offered link found inside)
     (omega (arith, c .before .before .before .before .before .before .before .if2 .left, c .before .before .before .before .before .before .before .before .bytes-held .ensures, held))
     (omega (arith, c .before .before .before .before .before .if3 .left, size)))
-    (sym (laid .0 ∙ zero-add (length bytes)))
-    (c .done .ensures)
+    (c .done .ensures ∙ ap wrote (laid .0 ∙ zero-add (length bytes)))
     (laid .1 ∙ over-zero bytes (a .out .now))
 
 pub write-spec : {M : Type 1} → statement M

@@ -7,7 +7,7 @@ use lib.ListN.{length}
 use borrow.Author.Needs.{needs}
 use borrow.Author.Tests.{not-true, not-false}
 use Rattle.answers.proofs.Task.{write-unoffered, write-long, write-short}
-use Rattle.answers.proofs.Writing.{refuses}
+use Rattle.answers.proofs.Wrote.{refuses}
 use Rattle.bits.specs.Bits.{byte}
 use Rattle.links.specs.Rows.{rowOf, place}
 use Rattle.links.specs.Sizes.{bytesHeld, imageLength}
@@ -36,7 +36,7 @@ returns : tie.Need-returns
 returns c =
     let a = c .before .before .before .before .before .args in
     let asked = c .before .before .is-slot-link in
-    refuses 1 (a .out .now) (write-unoffered (slotTask (a .link) (a .datagram .now)) (length (a .out .now)) (sym (asked .ensures) ∙ not-true (asked .result) (c .before .if1 .taken))) (c .refuse .ensures)
+    refuses (write-unoffered (slotTask (a .link) (a .datagram .now)) (length (a .out .now)) (sym (asked .ensures) ∙ not-true (asked .result) (c .before .if1 .taken))) (c .refuse .ensures)
 
 place-of-requires : tie.Need-place-of-requires
 place-of-requires c κs = search needs
@@ -63,7 +63,7 @@ returns-2 c =
     let slot = sym (asked .ensures) ∙ not-false (asked .result) (c .before .before .before .before .before .if1 .left) in
     let found = c .before .before .before .before .place-of .ensures in
     let held = c .before .before .bytes-held .ensures ∙ ap bytesHeld (row-is (a .link) found (place-inside (a .link) slot found) (c .before .before .before .row-at .ensures)) in
-    refuses 2 (a .out .now) (write-long (slotTask (a .link) (a .datagram .now)) (length (a .out .now)) slot (omega (arith, held, c .before .if2 .taken))) (c .refuse2 .ensures)
+    refuses (write-long (slotTask (a .link) (a .datagram .now)) (length (a .out .now)) slot (omega (arith, held, c .before .if2 .taken))) (c .refuse2 .ensures)
 
 image-length-at-requires : tie.Need-image-length-at-requires
 image-length-at-requires c κs =
@@ -90,7 +90,7 @@ returns-3 c =
     let found = c .before .before .before .before .before .before .place-of .ensures in
     let held = c .before .before .before .before .bytes-held .ensures ∙ ap bytesHeld (row-is (a .link) found (place-inside (a .link) slot found) (c .before .before .before .before .before .row-at .ensures)) in
     let size = c .before .before .image-length-at .ensures ∙ ap imageLength (found-row (a .link) found) in
-    refuses 3 (a .out .now)
+    refuses
     (write-short (slotTask (a .link) (a .datagram .now)) (length (a .out .now)) slot (omega (arith, held, c .before .before .before .if2 .left)) (omega (arith, size, c .before .if3 .taken)))
     (c .refuse3 .ensures)
 

@@ -1,11 +1,12 @@
 -- Both refusals come before the row is laid. Assumes nothing.
-use mathlib.Core.Path.{ap, _∙_}
+use mathlib.Core.Path.{sym, ap, _∙_}
 use mathlib.Core.List.{map}
 use Prim.Native.Nat.{ℕ}
 use native.Mathlib.Omega.{arith}
 use lib.ListN.{length}
 use borrow.Author.Needs.{needs}
-use Rattle.answers.proofs.Writing.{refuses, writes}
+use Rattle.answers.specs.Written.{wrote}
+use Rattle.answers.proofs.Wrote.{refuses, lays}
 use Rattle.bits.specs.Bits.{byte}
 use Rattle.bits.specs.Row.{highFirst}
 use Rattle.lists.specs.Over.{over}
@@ -21,7 +22,7 @@ refuse-requires c κs = search needs
 returns : tie.Need-returns
 returns c =
     let a = c .before .before .before .args in
-    refuses 1 (a .out .now) (write-high (a .number) (length (a .out .now)) (omega arith)) (c .refuse .ensures)
+    refuses (write-high (a .number) (length (a .out .now)) (omega arith)) (c .refuse .ensures)
 
 refuse-requires-2 : tie.Need-refuse-requires-2
 refuse-requires-2 c κs = search needs
@@ -29,7 +30,7 @@ refuse-requires-2 c κs = search needs
 returns-2 : tie.Need-returns-2
 returns-2 c =
     let a = c .before .before .before .before .args in
-    refuses 3 (a .out .now) (write-short (a .number) (length (a .out .now)) (omega arith) (omega arith)) (c .refuse2 .ensures)
+    refuses (write-short (a .number) (length (a .out .now)) (omega arith) (omega arith)) (c .refuse2 .ensures)
 
 word-of-requires : tie.Need-word-of-requires
 word-of-requires c κs = search needs
@@ -48,10 +49,9 @@ returns-3 c =
     let a = c .before .before .before .before .before .before .before .before .before .args in
     let bytes = map byte (wordBits (a .number)) in
     let word = ap (λ (w : ℕ). over 0 (map byte (highFirst 32 w)) (a .out .now)) (c .before .before .before .before .before .word-of .ensures) in
-    writes bytes (a .out .now) (c .before .before .before .lay-row .last .1 .0) 32
+    lays
     (write-done (a .number) (length (a .out .now)) (omega arith) (omega arith))
-    (length-word (a .number))
-    (c .done .ensures)
+    (c .done .ensures ∙ ap wrote (sym (length-word (a .number))))
     (c .before .before .before .lay-row .ensures ∙ word ∙ over-zero bytes (a .out .now))
 
 pub write-spec : {M : Type 1} → statement M

@@ -1,16 +1,16 @@
 -- Both tests come before the datagram is laid. Assumes nothing.
-use mathlib.Core.Path.{_≡_, sym, ap, _∙_}
+use mathlib.Core.Path.{_≡_, sym, _∙_}
 use mathlib.Core.List.{map}
 use Prim.Native.Nat.{_≤_, _<_}
 use native.Mathlib.Omega.{arith}
 use lib.ListN.{length-map}
 use borrow.Author.Tests.{not-true, not-false}
+use Rattle.answers.proofs.Wrote.{refuses, lays}
 use Rattle.bits.specs.Bits.{isOne}
 use Rattle.bits.specs.Row.{differences}
 use Rattle.links.proofs.Facts.{sizes}
-use Rattle.blocks.specs.Block.{imageOf, datagramOf}
-use Rattle.blocks.specs.Reading.{found}
-use Rattle.blocks.proofs.Accepting.{refuses, reads, over-refused, far-refused, near-accepted, length-datagram, datagram-laid}
+use Rattle.blocks.specs.Block.{imageOf}
+use Rattle.blocks.proofs.Accepting.{over-refused, far-refused, near-accepted, length-datagram, datagram-laid}
 use borrow.Author.Needs.{needs}
 use Rattle.blocks.proofs.reader.accept.Statement.{statement}
 use Rattle.blocks.proofs.reader.accept.Tie as tie
@@ -28,7 +28,7 @@ returns c =
     let came = map isOne (a .came .now) in
     let u = map isOne (a .u .now) in
     let long = length-map (a .u .now) isOne ∙ start .pre .1 in
-    refuses 7 (a .out .now) (over-refused (a .row) (start .pre .0) came u long (sym (c .before .before .over-zero .ensures) ∙ not-true (c .before .before .over-zero .result) (c .before .if1 .taken))) (c .refuse .ensures)
+    refuses (over-refused (a .row) (start .pre .0) came u long (sym (c .before .before .over-zero .ensures) ∙ not-true (c .before .before .over-zero .result) (c .before .if1 .taken))) (c .refuse .ensures)
 
 compare-requires : tie.Need-compare-requires
 compare-requires c κs = search needs
@@ -48,7 +48,7 @@ returns-2 c =
     let long = length-map (a .u .now) isOne ∙ start .pre .1 in
     let zero = sym (c .before .before .before .before .before .before .before .over-zero .ensures) ∙ not-false (c .before .before .before .before .before .before .before .over-zero .result) (c .before .before .before .before .before .before .if1 .left) in
     let far : 1 < differences (imageOf (a .row) u) came = omega (arith, c .before .before .before .before .compare .ensures, c .before .if2 .taken) in
-    refuses 7 (a .out .now) (far-refused (a .row) (start .pre .0) came u long zero far) (c .refuse2 .ensures)
+    refuses (far-refused (a .row) (start .pre .0) came u long zero far) (c .refuse2 .ensures)
 
 bytes-held-requires : tie.Need-bytes-held-requires
 bytes-held-requires c κs = sizes (c .before .before .before .before .before .before .before .before .before .before .before .args .row) (c .before .before .before .before .before .before .before .before .before .before .before .pre .0) .check
@@ -88,10 +88,9 @@ returns-3 c =
     let held = c .before .before .before .before .before .bytes-held .ensures in
     let near : d ≤ 1 = omega (arith, c .before .before .before .before .before .before .before .before .before .compare .ensures, c .before .before .before .before .before .before .if2 .left) in
     let count : c .before .before .before .before .before .before .before .before .before .compare .result ≡ d = omega (arith, c .before .before .before .before .before .before .before .before .before .compare .ensures, c .before .before .before .before .before .before .if2 .left) in
-    reads (datagramOf (a .row) u) d _ (a .out .now) _
+    lays
     (near-accepted (a .row) (start .pre .0) came u long zero near)
-    (length-datagram (a .row) u ∙ sym held)
-    (c .answer .ensures ∙ ap (found (c .before .before .before .before .before .bytes-held .result)) count)
+    (rw (length-datagram (a .row) u, ← held, ← count) (c .answer .ensures))
     (datagram-laid (a .row) u (a .out .now) _ held (c .before .before .before .pack .ensures))
 
 pub accept-spec : {M : Type 1} → statement M

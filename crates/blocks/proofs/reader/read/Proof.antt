@@ -9,7 +9,7 @@ use Rattle.links.specs.Rows.{rowOf}
 use Rattle.links.specs.Sizes.{bytesHeld, imageLength}
 use Rattle.links.proofs.Facts.{sizes}
 use Rattle.links.proofs.Search.{found-offered, found-none, found-row}
-use Rattle.blocks.proofs.Accepting.{refuses}
+use Rattle.answers.proofs.Wrote.{refuses}
 use Rattle.blocks.proofs.Calls.{read-unoffered, read-length, read-short, read-no-bit, read-tried}
 use Rattle.blocks.proofs.FoundRow.{row-is, row-good}
 use borrow.Author.Needs.{needs}
@@ -25,7 +25,7 @@ refuse-requires c κs = search needs
 returns : tie.Need-returns
 returns c =
     let a = c .before .before .before .before .before .args in
-    refuses 1 (a .out .now)
+    refuses
     (read-unoffered (a .link) (a .bits .now) (length (a .out .now)) (found-none (a .link) (c .before .before .place-of .ensures) (c .before .if1 .taken)))
     (c .refuse .ensures)
 
@@ -52,7 +52,7 @@ returns-2 c =
     let offers = found-offered (a .link) found (known .before .before .before .if1 .left) in
     let n = known .before .image-length-at .ensures ∙ ap imageLength (found-row (a .link) found) in
     let other = eqb-false (length (a .bits .now)) (known .before .image-length-at .result) (not-true (eqb (length (a .bits .now)) (known .before .image-length-at .result)) (c .before .if2 .taken)) in
-    refuses 2 (a .out .now) (read-length (a .link) (a .bits .now) (length (a .out .now)) offers (λ e. other (e ∙ sym n))) (c .refuse2 .ensures)
+    refuses (read-length (a .link) (a .bits .now) (length (a .out .now)) offers (λ e. other (e ∙ sym n))) (c .refuse2 .ensures)
 
 all-bits-requires : tie.Need-all-bits-requires
 all-bits-requires c κs = search needs
@@ -71,7 +71,7 @@ returns-3 c =
     let held = known .bytes-held .ensures ∙ ap bytesHeld (row-is (a .link) found inside (known .before .before .row-at .ensures)) in
     let size = eqb-true (length (a .bits .now)) (known .before .image-length-at .result) (not-false (eqb (length (a .bits .now)) (known .before .image-length-at .result)) (c .before .before .before .if2 .left)) ∙ n in
     let short : length (a .out .now) < bytesHeld (rowOf (a .link)) = omega (arith, held, ltb-true (length (a .out .now)) (known .bytes-held .result) (c .before .if3 .taken)) in
-    refuses 3 (a .out .now) (read-short (a .link) (a .bits .now) (length (a .out .now)) offers size short) (c .refuse3 .ensures)
+    refuses (read-short (a .link) (a .bits .now) (length (a .out .now)) offers size short) (c .refuse3 .ensures)
 
 refuse-requires-4 : tie.Need-refuse-requires-4
 refuse-requires-4 c κs = search needs
@@ -88,7 +88,7 @@ returns-4 c =
     let size = eqb-true (length (a .bits .now)) (known .before .image-length-at .result) (not-false (eqb (length (a .bits .now)) (known .before .image-length-at .result)) (c .before .before .before .before .if2 .left)) ∙ n in
     let fits : bytesHeld (rowOf (a .link)) ≤ length (a .out .now) = omega (arith, held, ltb-false (length (a .out .now)) (known .bytes-held .result) (c .before .before .if3 .left)) in
     let none = sym (c .before .before .before .all-bits .ensures) ∙ not-true (c .before .before .before .all-bits .result) (c .before .if4 .taken) in
-    refuses 4 (a .out .now) (read-no-bit (a .link) (a .bits .now) (length (a .out .now)) offers size fits none) (c .refuse4 .ensures)
+    refuses (read-no-bit (a .link) (a .bits .now) (length (a .out .now)) offers size fits none) (c .refuse4 .ensures)
 
 read-row-requires : tie.Need-read-row-requires
 read-row-requires c κs =

@@ -3,11 +3,12 @@ use mathlib.Core.Path.{_∙_}
 use mathlib.Core.List.{map}
 use lib.ListN.{length-map}
 use borrow.Author.Tests.{not-true, not-false}
+use Rattle.answers.proofs.Wrote.{refuses}
 use Rattle.bits.specs.Bits.{isOne}
 use Rattle.bits.proofs.Bits.{all-bytes}
 use Rattle.distance.specs.Coding.{received}
 use Rattle.blocks.specs.Coding.{codingOf}
-use Rattle.blocks.proofs.Accepting.{refuses, none-closes, one-closes}
+use Rattle.blocks.proofs.Accepting.{none-closes, one-closes}
 use borrow.Author.Needs.{needs}
 use Rattle.blocks.proofs.reader.read_block.Statement.{statement}
 use Rattle.blocks.proofs.reader.read_block.Tie as tie
@@ -33,7 +34,7 @@ returns : tie.Need-returns
 returns c =
     let start = c .before .before .before .before .before .before .before .before .before .before .before .before .before .before .before .before .before in
     let a = start .args in
-    refuses 7 (a .out .now)
+    refuses
     (none-closes (a .row) (start .pre .0) (map isOne (a .came .now)) (length-map (a .came .now) isOne ∙ start .pre .1) _ _ _ (c .before .before .before .before .before .before .before .before .before .before .receive .ensures) (c .before .before .before .before .mend .ensures)
     (not-true (c .before .before .before .before .mend .result) (c .before .if1 .taken)))
     (c .refuse .ensures)

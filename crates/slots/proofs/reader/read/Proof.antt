@@ -1,7 +1,8 @@
 -- A refusal of the head is the whole answer; else the rest is read as a block, and joined with the head. Assumes nothing.
 use borrow.Author.Needs.{needs}
+use Rattle.answers.proofs.Wrote.{refuses}
 use Rattle.lists.proofs.Parts.{part-rest}
-use Rattle.slots.proofs.Reading.{refuses, joins, head-long}
+use Rattle.slots.proofs.Reading.{head-refused, joins, head-long}
 use Rattle.slots.proofs.reader.read.Statement.{statement}
 use Rattle.slots.proofs.reader.read.Tie as tie
 
@@ -14,7 +15,7 @@ refuse-requires c κs = search needs
 returns : tie.Need-returns
 returns c =
     let a = c .before .before .before .before .before .before .args in
-    refuses (a .burst .now) (a .out .now) (c .before .before .before .read .ensures) (c .before .if1 .taken) (c .refuse .ensures)
+    refuses (head-refused (a .burst .now) (a .out .now) (c .before .before .before .read .ensures) (c .before .if1 .taken)) (c .refuse .ensures)
 
 sub-read : tie.Need-sub-read
 sub-read c = head-long (c .before .before .before .before .before .args .burst .now) (c .before .before .read .ensures) (c .if1 .left)
