@@ -11,8 +11,7 @@ use lib.ListN.{length, getD, take, drop, length-map}
 use lib.Seq.{getD-take, getD-drop}
 use Rattle.answers.specs.declared.Written.{Written}
 use Rattle.answers.specs.Numbers.{done, wrongLength, notOffered, noRoom, noBit, noBlock}
-use Rattle.answers.specs.Outcome.{Outcome}
-use Rattle.answers.proofs.Determined as d
+use Rattle.answers.proofs.Wrote.{told}
 use Rattle.bits.specs.Bits.{isOne, byte}
 use Rattle.bits.specs.Row.{differences, flip}
 use Rattle.bits.specs.Datagram.{allBytes}
@@ -37,78 +36,51 @@ use Rattle.blocks.proofs.Sound.{length-image}
 use Rattle.blocks.proofs.WaysOfReading as r
 use Rattle.claims.specs.Calls.{WroteBlock, ReadBlock, BlockAnswer}
 use Rattle.claims.proofs.Tasks.{Met, met, done-met}
-use Rattle.claims.proofs.Said.{said, told, held}
-
-abbrev read-status : Block → ℕ
-read-status answer = answer .status
-
-abbrev read-count : Block → ℕ
-read-count answer = answer .count
+use Rattle.claims.proofs.Endings.{Kind, Ends, refuses, answers, laid-in, refused-with, given-in}
 
 -- ---- reading ends in two ways: a refusal, or the datagram of a block that is near
-data Ending (link : ℕ) (bits : List ℕ) (room : ℕ) : Type 0 where
-  refuses : (number : ℕ) → (number ≡ done → ⊥) → readBlock link bits room ≡ refusal number → Ending link bits room
-  answers : (u : List Bool) → Near (rowOf link) (map isOne bits) u
-      → readBlock link bits room ≡ reading (datagramOf (rowOf link) u) (differences (imageOf (rowOf link) u) (map isOne bits)) → Ending link bits room
+abbrev pub readers : (link : ℕ) (bits : List ℕ) → Kind Block ((u : List Bool) × Near (rowOf link) (map isOne bits) u)
+readers link bits = record {
+  status = λ answer. answer .status;
+  count = λ answer. answer .count;
+  refused = λ number. refusal number .answer;
+  given = λ near. reading (datagramOf (rowOf link) (near .0)) (differences (imageOf (rowOf link) (near .0)) (map isOne bits));
+  numbered = λ number. refl;
+  uncounted = λ number. refl;
+  is-done = λ near. refl;
+  counts = λ near. refl;
+}
 
-ends : (link : ℕ) (bits : List ℕ) (room : ℕ) → Ending link bits room
+pub ends : (link : ℕ) (bits : List ℕ) (room : ℕ) → Ends (readers link bits) (readBlock link bits room)
 ends link bits room = goes (r.reading-goes link bits room)
   where
-    goes : r.Reading link bits room → Ending link bits room
+    goes : r.Reading link bits room → Ends (readers link bits) (readBlock link bits room)
     goes (r.unoffered o e) = refuses notOffered (λ z. omega (arith, z)) e
     goes (r.no-length o s e) = refuses wrongLength (λ z. omega (arith, z)) e
     goes (r.too-short o s h e) = refuses noRoom (λ z. omega (arith, z)) e
     goes (r.no-bits o s h a e) = refuses noBit (λ z. omega (arith, z)) e
     goes (r.none-near o s h a f e) = refuses noBlock (λ z. omega (arith, z)) e
-    goes (r.reads o s h a u n e) = answers u n e
-
-counted : (link : ℕ) (bits : List ℕ) (room : ℕ) → d.Counted read-count (readBlock link bits room)
-counted link bits room = goes (ends link bits room)
-  where
-    goes : Ending link bits room → d.Counted read-count (readBlock link bits room)
-    goes (refuses number h e) = rw e
-    goes (answers u n e) = rw e
+    goes (r.reads o s h a u n e) = answers (u, n) e
 
 -- ---- what an outcome says of the answer
 module _ (link : ℕ) (bits old new : List ℕ) (answer : Block) (wr : ReadBlock link bits old new answer) where
-  pub behind : drop (answer .count) new ≡ drop (answer .count) old
-  behind = d.behind read-count (readBlock link bits (length old)) (counted link bits (length old)) wr
-
   answers-with : (datagram : List ℕ) (wrong : ℕ) → readBlock link bits (length old) ≡ reading datagram wrong → BlockAnswer datagram wrong old new answer
   answers-with datagram wrong e =
-      let same = said wr e in
-      let bytes = d.front read-count (readBlock link bits (length old)) (counted link bits (length old)) wr ∙ ap (λ (o : Outcome Block). o .bytes) e in
-      record {
-        status = ap read-status same;
-        laid = record { full = ap read-count same; front = bytes; behind = behind };
-        wrongs = ap (λ (b : Block). b .wrong) same;
-      }
+      record { status = told wr (λ (b : Block). b .status) e; laid = laid-in (ends link bits (length old)) wr e; wrongs = told wr (λ (b : Block). b .wrong) e }
 
   pub refused : (answer .status ≡ done → ⊥) → (answer .count ≡ 0) × (answer .wrong ≡ 0) × (new ≡ old)
-  refused z = goes (ends link bits (length old))
-    where
-      goes : Ending link bits (length old) → (answer .count ≡ 0) × (answer .wrong ≡ 0) × (new ≡ old)
-      goes (refuses number h e) = (told wr read-count e, told wr (λ (b : Block). b .wrong) e, held wr e)
-      goes (answers u n e) = absurd (z (told wr read-status e))
+  refused z =
+      let r = refused-with (ends link bits (length old)) wr z in
+      (ap (λ (b : Block). b .count) (r .1), ap (λ (b : Block). b .wrong) (r .1), r .2)
 
   -- an answer 0 is given only where a block is near, and for that block
   near-of : answer .status ≡ done → (u : List Bool) × Near (rowOf link) (map isOne bits) u
-  near-of z = goes (ends link bits (length old))
-    where
-      goes : Ending link bits (length old) → (u : List Bool) × Near (rowOf link) (map isOne bits) u
-      goes (refuses number h e) = absurd (h (sym (told wr read-status e) ∙ z))
-      goes (answers u n e) = (u, n)
+  near-of z = given-in (ends link bits (length old)) wr z .0
 
   pub full : answer .status ≡ done → answer .count ≡ bytesHeld (rowOf link)
-  full z = goes (ends link bits (length old))
-    where
-      goes : Ending link bits (length old) → answer .count ≡ bytesHeld (rowOf link)
-      goes (refuses number h e) = absurd (h (sym (told wr read-status e) ∙ z))
-      goes (answers u n e) = told wr read-count e ∙ length-datagram (rowOf link) u
-
-pub determined : (link : ℕ) (bits old old' new new' : List ℕ) (answer answer' : Block) → length old ≡ length old' → ReadBlock link bits old new answer → ReadBlock link bits old' new' answer'
-    → (answer ≡ answer') × (take (answer .count) new ≡ take (answer .count) new')
-determined link bits old old' new new' answer answer' l wr wr' = d.determined read-count (readBlock link bits (length old)) (counted link bits (length old)) wr (rw (← l) at wr')
+  full z =
+      let near = given-in (ends link bits (length old)) wr z in
+      told wr (λ (b : Block). b .count) (near .1) ∙ length-datagram (rowOf link) (near .0 .0)
 
 -- ---- reading is exact
 module _ (link : ℕ) (o : offered link ≡ true) (came : List Bool) (size : length came ≡ imageLength (rowOf link)) (old new : List ℕ) (answer : Block)
@@ -133,7 +105,7 @@ module _ (link : ℕ) (o : offered link ≡ true) (came : List Bool) (size : len
       goes far (r.no-length t s e) = absurd (s long)
       goes far (r.too-short t s h e) = absurd (omega arith)
       goes far (r.no-bits t s h a e) = absurd (true≢false (sym (all-bytes came) ∙ a))
-      goes far (r.none-near t s h a f e) = told wr read-status e
+      goes far (r.none-near t s h a f e) = told wr (λ (b : Block). b .status) e
       goes far (r.reads t s h a u n e) = absurd (far u (rw (bits-bytes came) at n))
 
 -- ---- what was written

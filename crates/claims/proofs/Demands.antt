@@ -20,7 +20,7 @@ use Rattle.messages.proofs.Tiling.{walks-tile, walks-fill}
 use Rattle.messages.proofs.Walk.{walk-ends, walks-one}
 use Rattle.claims.specs.Demands.{Demand1, Demand2, Demand3}
 use Rattle.claims.proofs.Blocks as blocks
-use Rattle.claims.proofs.Endings.{word-ends, task-ends, refused, behind, determined}
+use Rattle.claims.proofs.Endings.{word-ends, task-ends, wrote-none, behind, determined}
 use Rattle.claims.proofs.Lines.{one-number}
 use Rattle.claims.proofs.Messages as messages
 use Rattle.claims.proofs.Numbers.{writes-word, reads-word, writes-task, reads-block, reads-slot, steps}
@@ -37,24 +37,24 @@ demand1 = record {
   write-slot-number = λ link datagram old new answer wr. writes-task (slotTask link datagram) old new answer wr (t.writing-goes (slotTask link datagram) (length old));
   read-slot-number = λ burst old new answer wr. reads-slot burst old new answer wr (rs.reading-goes burst (length old));
   step-number = λ datagram position answer e. steps datagram position answer e (step-goes datagram position);
-  write-word-refused = λ n old new answer wr. refused (word-ends n (length old)) wr;
+  write-word-refused = λ n old new answer wr. wrote-none (word-ends n (length old)) wr;
   read-word-refused = words.refused;
-  write-block-refused = λ link datagram old new answer wr. refused (task-ends (blockTask link datagram) (length old)) wr;
+  write-block-refused = λ link datagram old new answer wr. wrote-none (task-ends (blockTask link datagram) (length old)) wr;
   read-block-refused = blocks.refused;
-  write-slot-refused = λ link datagram old new answer wr. refused (task-ends (slotTask link datagram) (length old)) wr;
+  write-slot-refused = λ link datagram old new answer wr. wrote-none (task-ends (slotTask link datagram) (length old)) wr;
   read-slot-refused = slots.refused;
   step-refused = messages.refused;
   write-word-behind = λ n old new answer wr. behind (word-ends n (length old)) wr;
   write-block-behind = λ link datagram old new answer wr. behind (task-ends (blockTask link datagram) (length old)) wr;
-  read-block-behind = blocks.behind;
+  read-block-behind = λ link bits old new answer wr. behind (blocks.ends link bits (length old)) wr;
   write-slot-behind = λ link datagram old new answer wr. behind (task-ends (slotTask link datagram) (length old)) wr;
-  read-slot-behind = slots.behind;
+  read-slot-behind = λ burst old new answer wr. behind (slots.ends burst (length old)) wr;
   write-word-determined = λ n old old' new new' answer answer' l wr wr'. determined (word-ends n (length old)) wr (rw (← l) at wr');
   read-word-determined = λ row answer answer' e f. e ∙ sym f;
   write-block-determined = λ link datagram old old' new new' answer answer' l wr wr'. determined (task-ends (blockTask link datagram) (length old)) wr (rw (← l) at wr');
-  read-block-determined = blocks.determined;
+  read-block-determined = λ link bits old old' new new' answer answer' l wr wr'. determined (blocks.ends link bits (length old)) wr (rw (← l) at wr');
   write-slot-determined = λ link datagram old old' new new' answer answer' l wr wr'. determined (task-ends (slotTask link datagram) (length old)) wr (rw (← l) at wr');
-  read-slot-determined = slots.determined;
+  read-slot-determined = λ burst old old' new new' answer answer' l wr wr'. determined (slots.ends burst (length old)) wr (rw (← l) at wr');
   step-determined = λ datagram position answer answer' e f. e ∙ sym f;
 }
 

@@ -5,7 +5,6 @@ pub mod Endings
 pub mod Lines
 pub mod Messages
 pub mod Numbers
-pub mod Said
 pub mod Slots
 pub mod Tasks
 pub mod Words

@@ -8,10 +8,11 @@ use Prim.Native.Nat.{ℕ}
 use native.Mathlib.Omega.{arith}
 use lib.ListN.{length}
 use Rattle.answers.specs.declared.Written.{Written}
+use Rattle.answers.specs.Numbers.{done, notOffered}
 use Rattle.answers.specs.Outcome.{Wrote}
 use Rattle.answers.specs.Task.{Task, writeTask}
 use Rattle.answers.proofs.Task as t
-use Rattle.answers.specs.Numbers.{done, notOffered}
+use Rattle.answers.proofs.Wrote.{told}
 use Rattle.blocks.specs.declared.Block.{Block}
 use Rattle.blocks.proofs.WaysOfReading as rb
 use Rattle.words.specs.declared.Word.{Word}
@@ -26,7 +27,6 @@ use Rattle.messages.specs.Stepping.{Stepping, past, ends, spoils, breaks, finds
 use Rattle.messages.proofs.Stepping.{past-exact, broken-exact, spoilt-exact}
 use Rattle.claims.specs.Lines.{Lines, line, Given}
 use Rattle.claims.specs.Calls as calls
-use Rattle.claims.proofs.Said.{told}
 
 abbrev written : Written → ℕ
 written answer = answer .status

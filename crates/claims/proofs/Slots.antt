@@ -6,11 +6,10 @@ use mathlib.Core.Bool.{Bool, true}
 use mathlib.Core.List.{List, map}
 use Prim.Native.Nat.{ℕ, _≤_}
 use native.Mathlib.Omega.{arith}
-use lib.ListN.{length, take, drop, length-map}
+use lib.ListN.{length, take, length-map}
 use Rattle.answers.specs.declared.Written.{Written}
 use Rattle.answers.specs.Numbers.{done, notOffered, wrongLength, noRoom, noBit, noTraining, noWord, noBlock}
-use Rattle.answers.specs.Outcome.{Outcome}
-use Rattle.answers.proofs.Determined as d
+use Rattle.answers.proofs.Wrote.{told}
 use Rattle.bits.specs.Bits.{isOne, byte}
 use Rattle.bits.specs.Row.{differences}
 use Rattle.bits.specs.Datagram.{allBytes}
@@ -36,21 +35,30 @@ use Rattle.slots.proofs.WaysOfReading as r
 use Rattle.slots.proofs.Writing.{long-burst}
 use Rattle.claims.specs.Calls.{WroteSlot, ReadSlot, SlotAnswer}
 use Rattle.claims.proofs.Tasks.{Met, met, done-met}
-use Rattle.claims.proofs.Said.{said, told, held}
+use Rattle.claims.proofs.Endings.{Kind, Ends, refuses, answers, laid-in, refused-with, given-in}
 
-abbrev read-status : Slot → ℕ
-read-status answer = answer .status
+-- ---- reading ends in two ways: a refusal, or the datagram of a burst that is near
+pub record Found (burst : List ℕ) (room : ℕ) : Type 0 where
+  pub link : ℕ
+  pub wrong : ℕ
+  pub head : r.Headed burst link wrong
+  pub sized : r.Sized burst room link
+  pub u : List Bool
+  pub near : NearBlock (rowOf link) (map isOne (blockPart burst)) u
 
-abbrev read-count : Slot → ℕ
-read-count answer = answer .count
+abbrev pub readers : (burst : List ℕ) (room : ℕ) → Kind Slot (Found burst room)
+readers burst room = record {
+  status = λ answer. answer .status;
+  count = λ answer. answer .count;
+  refused = λ number. refusal number .answer;
+  given = λ found. reading (datagramOf (rowOf (found .link)) (found .u)) (differences (imageOf (rowOf (found .link)) (found .u)) (map isOne (blockPart burst))) (found .link) (found .wrong);
+  numbered = λ number. refl;
+  uncounted = λ number. refl;
+  is-done = λ found. refl;
+  counts = λ found. refl;
+}
 
--- ---- reading ends in two ways: a refusal, or a datagram
-data Ending (burst : List ℕ) (room : ℕ) : Type 0 where
-  refuses : (number : ℕ) → (number ≡ done → ⊥) → readSlot burst room ≡ refusal number → Ending burst room
-  answers : (link wrong : ℕ) → r.Headed burst link wrong → r.Sized burst room link → (u : List Bool) → NearBlock (rowOf link) (map isOne (blockPart burst)) u
-      → readSlot burst room ≡ reading (datagramOf (rowOf link) u) (differences (imageOf (rowOf link) u) (map isOne (blockPart burst))) link wrong → Ending burst room
-
-ending : {burst : List ℕ} {room : ℕ} → r.Reading burst room → Ending burst room
+ending : {burst : List ℕ} {room : ℕ} → r.Reading burst room → Ends (readers burst room) (readSlot burst room)
 ending (r.too-few h e) = refuses wrongLength (λ z. omega (arith, z)) e
 ending (r.no-bits l a e) = refuses noBit (λ z. omega (arith, z)) e
 ending (r.no-training l a t e) = refuses noTraining (λ z. omega (arith, z)) e
@@ -60,56 +68,33 @@ ending (r.no-length link wrong h s e) = refuses wrongLength (λ z. omega (arith,
 ending (r.too-short link wrong h s f e) = refuses noRoom (λ z. omega (arith, z)) e
 ending (r.rest-no-bits link wrong h s a e) = refuses noBit (λ z. omega (arith, z)) e
 ending (r.none-near link wrong h s a f e) = refuses noBlock (λ z. omega (arith, z)) e
-ending (r.reads link wrong h s a u n e) = answers link wrong h s u n e
+ending (r.reads link wrong h s a u n e) = answers (record { link = link; wrong = wrong; head = h; sized = s; u = u; near = n }) e
 
-ends : (burst : List ℕ) (room : ℕ) → Ending burst room
+pub ends : (burst : List ℕ) (room : ℕ) → Ends (readers burst room) (readSlot burst room)
 ends burst room = ending (r.reading-goes burst room)
-
--- ---- the count is that of the bytes that are laid
-read-counted : (burst : List ℕ) (room : ℕ) → d.Counted read-count (readSlot burst room)
-read-counted burst room = goes (ends burst room)
-  where
-    goes : Ending burst room → d.Counted read-count (readSlot burst room)
-    goes (refuses number h e) = rw e
-    goes (answers link wrong h s u n e) = rw e
 
 -- ---- what an outcome says of the answer
 module _ (burst old new : List ℕ) (answer : Slot) (wr : ReadSlot burst old new answer) where
-  pub behind : drop (answer .count) new ≡ drop (answer .count) old
-  behind = d.behind read-count (readSlot burst (length old)) (read-counted burst (length old)) wr
-
   pub refused : (answer .status ≡ done → ⊥) → (answer .count ≡ 0) × (answer .wrong ≡ 0) × (answer .link ≡ 0) × (answer .«word_wrong» ≡ 0) × (new ≡ old)
-  refused z = goes (ends burst (length old))
-    where
-      goes : Ending burst (length old) → (answer .count ≡ 0) × (answer .wrong ≡ 0) × (answer .link ≡ 0) × (answer .«word_wrong» ≡ 0) × (new ≡ old)
-      goes (refuses number h e) =
-          (told wr read-count e, told wr (λ (a : Slot). a .wrong) e, told wr (λ (a : Slot). a .link) e, told wr (λ (a : Slot). a .«word_wrong») e, held wr e)
-      goes (answers link wrong h s u n e) = absurd (z (told wr read-status e))
+  refused z =
+      let r = refused-with (ends burst (length old)) wr z in
+      (ap (λ (a : Slot). a .count) (r .1), ap (λ (a : Slot). a .wrong) (r .1), ap (λ (a : Slot). a .link) (r .1), ap (λ (a : Slot). a .«word_wrong») (r .1), r .2)
 
   pub full : answer .status ≡ done → answer .count ≡ bytesHeld (rowOf (answer .link))
-  full z = goes (ends burst (length old))
-    where
-      goes : Ending burst (length old) → answer .count ≡ bytesHeld (rowOf (answer .link))
-      goes (refuses number h e) = absurd (h (sym (told wr read-status e) ∙ z))
-      goes (answers link wrong h s u n e) =
-          told wr read-count e ∙ length-datagram (rowOf link) u ∙ ap (λ (l : ℕ). bytesHeld (rowOf l)) (sym (told wr (λ (a : Slot). a .link) e))
+  full z =
+      let g = given-in (ends burst (length old)) wr z in
+      told wr (λ (a : Slot). a .count) (g .1) ∙ length-datagram (rowOf (g .0 .link)) (g .0 .u) ∙ ap (λ (l : ℕ). bytesHeld (rowOf l)) (sym (told wr (λ (a : Slot). a .link) (g .1)))
 
   answers-with : (datagram : List ℕ) (wrong link wordWrong : ℕ) → readSlot burst (length old) ≡ reading datagram wrong link wordWrong
       → SlotAnswer datagram wrong link wordWrong old new answer
   answers-with datagram wrong link wordWrong e =
-      let same = said wr e in
-      let bytes = d.front read-count (readSlot burst (length old)) (read-counted burst (length old)) wr ∙ ap (λ (o : Outcome Slot). o .bytes) e in
       record {
-        status = ap read-status same;
-        laid = record { full = ap read-count same; front = bytes; behind = behind };
-        wrongs = ap (λ (a : Slot). a .wrong) same;
-        links = ap (λ (a : Slot). a .link) same;
-        word-wrongs = ap (λ (a : Slot). a .«word_wrong») same;
+        status = told wr (λ (a : Slot). a .status) e;
+        laid = laid-in (ends burst (length old)) wr e;
+        wrongs = told wr (λ (a : Slot). a .wrong) e;
+        links = told wr (λ (a : Slot). a .link) e;
+        word-wrongs = told wr (λ (a : Slot). a .«word_wrong») e;
       }
-
-pub determined : (burst old old' new new' : List ℕ) (answer answer' : Slot) → length old ≡ length old' → ReadSlot burst old new answer → ReadSlot burst old' new' answer'
-    → (answer ≡ answer') × (take (answer .count) new ≡ take (answer .count) new')
-determined burst old old' new new' answer answer' l wr wr' = d.determined read-count (readSlot burst (length old)) (read-counted burst (length old)) wr (rw (← l) at wr')
 
 -- ---- reading is exact
 module _ (came : List Bool) (old new : List ℕ) (answer : Slot) (wr : ReadSlot (map byte came) old new answer) where
@@ -118,12 +103,10 @@ module _ (came : List Bool) (old new : List ℕ) (answer : Slot) (wr : ReadSlot 
   answered link wordWrong u n room = answers-with (map byte came) old new answer wr _ _ _ _ (burst-answered came link wordWrong u n (length old) room)
 
   pub exact : (answer .status ≡ done) ↔ ((link : ℕ) × (wordWrong : ℕ) × (u : List Bool) × Near came link wordWrong u × (bytesHeld (rowOf link) ≤ length old))
-  exact = (λ z. found z (ends (map byte came) (length old)), λ some. answered (some .0) (some .1) (some .2) (some .3) (some .4) .status)
-    where
-      found : answer .status ≡ done → Ending (map byte came) (length old)
-          → (link : ℕ) × (wordWrong : ℕ) × (u : List Bool) × Near came link wordWrong u × (bytesHeld (rowOf link) ≤ length old)
-      found z (refuses number h e) = absurd (h (sym (told wr read-status e) ∙ z))
-      found z (answers link wrong h s u n e) = (link, wrong, u, r.near-burst came link wrong h s u n, s .fits)
+  exact = (
+    λ z. let f = given-in (ends (map byte came) (length old)) wr z .0 in (f .link, f .wrong, f .u, r.near-burst came (f .link) (f .wrong) (f .head) (f .sized) (f .u) (f .near), f .sized .fits),
+    λ some. answered (some .0) (some .1) (some .2) (some .3) (some .4) .status,
+  )
 
 pub only-one : (came : List Bool) (link link' wrong wrong' : ℕ) (u u' : List Bool) → Near came link wrong u → Near came link' wrong' u' → (link ≡ link') × (wrong ≡ wrong') × (u ≡ u')
 only-one came link link' wrong wrong' u u' n n' =

@@ -8,7 +8,7 @@ use native.Mathlib.Omega.{arith}
 use lib.ListN.{length, take}
 use Rattle.answers.specs.declared.Written.{Written}
 use Rattle.answers.specs.Numbers.{done}
-use Rattle.answers.specs.Outcome.{Outcome}
+use Rattle.answers.proofs.Wrote.{told}
 use Rattle.bits.specs.Bits.{byte}
 use Rattle.bits.specs.Row.{differences}
 use Rattle.words.specs.declared.Word.{Word}
@@ -20,23 +20,23 @@ use Rattle.words.proofs.Calls.{write-done, length-word}
 use Rattle.words.proofs.Exact.{near-found, word-back}
 use Rattle.words.proofs.Ways as w
 use Rattle.claims.specs.Calls.{WroteWord, ReadWord}
-use Rattle.claims.proofs.Endings.{status, count, word-ends, front}
-use Rattle.claims.proofs.Said.{told}
+use Rattle.claims.proofs.Endings.{writers, word-ends, laid-in}
 
 module _ (n : ℕ) (old new : List ℕ) (answer : Written) (wr : WroteWord n old new answer) where
   pub written : n ≤ 63 → 32 ≤ length old → (answer .status ≡ done) × (answer .count ≡ 32) × (take 32 new ≡ map byte (wordBits n))
   written h room =
       let e = write-done n (length old) h room in
-      let long = told wr count e ∙ length-word n in
-      (told wr status e, long, rw long at (front (word-ends n (length old)) wr ∙ ap (λ (o : Outcome Written). o .bytes) e))
+      let laid = laid-in (word-ends n (length old)) wr e in
+      let long = laid .full ∙ length-word n in
+      (told wr (writers .status) e, long, rw long at (laid .front))
 
   -- an answer 0 is given only where the word is written
   pub back : answer .status ≡ done → readWord (take (answer .count) new) ≡ found n 0
   back z = goes (w.writing-goes n (length old))
     where
       goes : w.Writing n (length old) → readWord (take (answer .count) new) ≡ found n 0
-      goes (w.too-high h e) = absurd (omega (arith, told wr status e))
-      goes (w.too-short h f e) = absurd (omega (arith, told wr status e))
+      goes (w.too-high h e) = absurd (omega (arith, told wr (writers .status) e))
+      goes (w.too-short h f e) = absurd (omega (arith, told wr (writers .status) e))
       goes (w.writes h f e) = let all = written h f in rw (all .1, all .2) (word-back n (omega arith))
 
 pub refused : (row : List ℕ) (answer : Word) → ReadWord row answer → (answer .status ≡ done → ⊥) → (answer .number ≡ 0) × (answer .wrong ≡ 0)
