@@ -1,14 +1,15 @@
--- The block of a datagram is valid, and holds the datagram, zero-filled.
+-- The block of a datagram is valid, its image is as long as the link's are, and it holds the datagram, zero-filled.
 -- Assumes nothing.
 use mathlib.Core.Path.{_≡_, refl, _∙_}
 use mathlib.Core.Bool.{true, false}
-use mathlib.Core.List.{List}
+use mathlib.Core.List.{List, map}
 use Prim.Native.Nat.{ℕ, zero, suc, _-_, _*_, _≤_}
 use native.Mathlib.Omega.{arith}
 use lib.Dec.{T}
-use lib.ListN.{length, replicate, length-append}
+use lib.ListN.{length, replicate, length-append, length-map}
 use lib.Seq.{take-at}
-use Rattle.bits.specs.Datagram.{bitsOf, filled, allBytes}
+use Rattle.bits.specs.Bits.{byte}
+use Rattle.bits.specs.Datagram.{bitsOf, allBytes}
 use Rattle.bits.proofs.Datagram.{length-bitsOf, bytesOf-append, datagram-back}
 use Rattle.bits.proofs.Filled.{length-filled, drop-filled}
 use Rattle.bits.proofs.Row.{length-highFirst}
@@ -18,10 +19,11 @@ use Rattle.distance.specs.Valid.{allZero, bitsOver, valid}
 use Rattle.distance.proofs.Valid.{valid-from}
 use Rattle.links.specs.declared.Row.{Row}
 use Rattle.links.specs.Good.{goodRow}
-use Rattle.links.specs.Sizes.{openBits, bytesHeld}
+use Rattle.links.specs.Sizes.{openBits, bytesHeld, imageLength}
 use Rattle.links.proofs.Facts.{sizes}
-use Rattle.blocks.specs.Block.{opening, blockOf, datagramOf, zeroFilled}
+use Rattle.blocks.specs.Block.{opening, blockOf, imageOf, datagramOf, zeroFilled}
 use Rattle.blocks.specs.Coding.{codingOf}
+use Rattle.blocks.proofs.Sound.{length-image}
 
 zeros : (n : ℕ) → allZero (replicate n false) ≡ true
 unfolding allZero
@@ -42,6 +44,9 @@ module _ (row : Row) (good : T (goodRow row)) (datagram : List ℕ) (fits : leng
         length-highFirst 32 (register (opening row datagram)),
         sizes row good .check,
       )
+
+  pub long-image : length (map byte (imageOf row (blockOf row datagram))) ≡ imageLength row
+  long-image = length-map (imageOf row (blockOf row datagram)) byte ∙ length-image row good (blockOf row datagram) length-block
 
   -- the bits over are zero
   over-zero : allZero (bitsOver (codingOf row) (blockOf row datagram)) ≡ true

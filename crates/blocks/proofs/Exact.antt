@@ -8,7 +8,7 @@ use Prim.Native.Nat.{_≤_}
 use lib.Dec.{T}
 use lib.ListN.{length}
 use Rattle.bits.specs.Row.{differences}
-use Rattle.distance.specs.Valid.{Near as CodingNear, valid}
+use Rattle.distance.specs.Valid.{Near as CodingNear}
 use Rattle.distance.specs.Reading.{readByTrying}
 use Rattle.distance.proofs.Exact as coding
 use Rattle.distance.proofs.Valid.{valid-length}

@@ -31,8 +31,7 @@ use Rattle.blocks.specs.Near.{Valid, Near}
 use Rattle.blocks.specs.Calls.{blockTask, readBlock, refused as refusal, reading}
 use Rattle.blocks.proofs.Accepting.{length-datagram}
 use Rattle.blocks.proofs.Answered.{near-answered, near-itself, near-flipped}
-use Rattle.blocks.proofs.Blocks.{length-block, block-valid, datagram-in-block}
-use Rattle.blocks.proofs.Sound.{length-image}
+use Rattle.blocks.proofs.Blocks.{long-image, block-valid, datagram-in-block}
 use Rattle.blocks.proofs.WaysOfReading as r
 use Rattle.claims.specs.Calls.{WroteBlock, ReadBlock, BlockAnswer}
 use Rattle.claims.proofs.Tasks.{Met, met, done-met}
@@ -109,15 +108,12 @@ module _ (link : ℕ) (o : offered link ≡ true) (came : List Bool) (size : len
       goes far (r.reads t s h a u n e) = absurd (far u (rw (bits-bytes came) at n))
 
 -- ---- what was written
-long-image : (link : ℕ) → offered link ≡ true → (datagram : List ℕ) → length datagram ≤ bytesHeld (rowOf link) → length (imageOf (rowOf link) (blockOf (rowOf link) datagram)) ≡ imageLength (rowOf link)
-long-image link o datagram h = length-image (rowOf link) (good link o) (blockOf (rowOf link) datagram) (length-block (rowOf link) (good link o) datagram h)
-
 pub written : (link : ℕ) (datagram old new : List ℕ) (answer : Written) → offered link ≡ true → length datagram ≤ bytesHeld (rowOf link) → imageLength (rowOf link) ≤ length old
     → WroteBlock link datagram old new answer
     → (answer .status ≡ done) × (answer .count ≡ imageLength (rowOf link)) × (take (answer .count) new ≡ map byte (imageOf (rowOf link) (blockOf (rowOf link) datagram)))
 written link datagram old new answer o h room wr =
     let m = met (blockTask link datagram) old new answer wr o h room in
-    (m .status, m .long ∙ length-map (imageOf (rowOf link) (blockOf (rowOf link) datagram)) byte ∙ long-image link o datagram h, m .bits)
+    (m .status, m .long ∙ long-image (rowOf link) (good link o) datagram h, m .bits)
 
 -- ---- the way back: the block's image, as it was written or with one place inverted
 module _ (link : ℕ) (datagram old new : List ℕ) (answer : Written) (bytes : allBytes datagram ≡ true) (w : WroteBlock link datagram old new answer) (z : answer .status ≡ done)
@@ -137,7 +133,7 @@ module _ (link : ℕ) (datagram old new : List ℕ) (answer : Written) (bytes : 
 
   image-long : length (imageOf (rowOf link) u) ≡ imageLength (rowOf link)
   unfolding u
-  image-long = long-image link (i .offered) datagram (i .fits)
+  image-long = sym (length-map (imageOf (rowOf link) u) byte) ∙ long-image (rowOf link) row-good datagram (i .fits)
 
   filled : datagramOf (rowOf link) u ≡ zeroFilled (rowOf link) datagram
   unfolding u

@@ -5,8 +5,7 @@ use mathlib.Core.Bool.{true}
 use mathlib.Core.List.{List, _++_, map, map-append}
 use Prim.Native.Nat.{ℕ, _+_, _-_, _≤_}
 use native.Mathlib.Omega.{arith}
-use lib.Dec.{T}
-use lib.ListN.{length, take, drop, length-map, length-append, length-drop}
+use lib.ListN.{length, take, drop, length-append, length-drop}
 use Rattle.answers.specs.declared.Written.{Written}
 use Rattle.answers.specs.Written.{wrote}
 use Rattle.answers.specs.Outcome.{laid, Wrote, writing}
@@ -16,14 +15,12 @@ use Rattle.lists.specs.Over.{over}
 use Rattle.lists.proofs.Over.{over-length}
 use Rattle.lists.proofs.Parts.{part-rest}
 use Rattle.bits.specs.Bits.{byte}
-use Rattle.links.specs.Good.{goodRow}
 use Rattle.links.specs.Rows.{rowOf}
 use Rattle.links.specs.Sizes.{bytesHeld, imageLength}
 use Rattle.links.proofs.Good.{good}
 use Rattle.blocks.specs.Block.{blockOf, imageOf}
 use Rattle.blocks.specs.Calls.{blockTask, writeBlock}
-use Rattle.blocks.proofs.Blocks.{length-block}
-use Rattle.blocks.proofs.Sound.{length-image}
+use Rattle.blocks.proofs.Blocks.{long-image}
 use Rattle.slots.specs.Burst.{headLength, isSlotLink, burstLength, headOf, burstOf}
 use Rattle.slots.specs.Calls.{slotTask, writeSlot}
 use Rattle.slots.proofs.HeadLaid.{length-head}
@@ -39,17 +36,15 @@ module _ (link : ℕ) (o : isSlotLink link ≡ true) (datagram : List ℕ) (fits
   abbrev image : List ℕ
   image = map byte (imageOf (rowOf link) (blockOf (rowOf link) datagram))
 
-  long-image : length image ≡ imageLength (rowOf link)
-  long-image =
-      let row-good : T (goodRow (rowOf link)) = good link (slot-offered link o) in
-      length-map (imageOf (rowOf link) (blockOf (rowOf link) datagram)) byte ∙ length-image (rowOf link) row-good _ (length-block (rowOf link) row-good datagram fits)
+  length-block : length image ≡ imageLength (rowOf link)
+  length-block = long-image (rowOf link) (good link (slot-offered link o)) datagram fits
 
   burst-parts : map byte (burstOf link datagram) ≡ map byte (headOf link) ++ image
   unfolding burstOf
   burst-parts = map-append byte (headOf link) (imageOf (rowOf link) (blockOf (rowOf link) datagram))
 
   pub long-burst : length (map byte (burstOf link datagram)) ≡ burstLength link
-  long-burst = omega (arith, ap length burst-parts, length-append (map byte (headOf link)) image, length-head link, long-image)
+  long-burst = omega (arith, ap length burst-parts, length-append (map byte (headOf link)) image, length-head link, length-block)
 
   module _ (old mid part : List ℕ) {block : Written} (room : burstLength link ≤ length old) (head : mid ≡ over 0 (map byte (headOf link)) old)
       (rest : Wrote (writeBlock link datagram (length (behindHead mid))) (behindHead mid) part block) where
@@ -61,7 +56,7 @@ module _ (link : ℕ) (o : isSlotLink link ≡ true) (datagram : List ℕ) (fits
     block-laid = write-done (blockTask link datagram) (length (behindHead mid)) (slot-offered link o) fits enough
 
     pub counted : block .count ≡ imageLength (rowOf link)
-    counted = told rest (λ (w : Written). w .count) block-laid ∙ long-image
+    counted = told rest (λ (w : Written). w .count) block-laid ∙ length-block
 
     pub written : {answer : Written} → answer ≡ wrote (headLength + block .count)
         → Wrote (writeSlot link datagram (length old)) old (take headLength mid ++ (part ++ drop (length mid - headLength) (drop headLength mid))) answer

@@ -5,7 +5,6 @@ mod training;
 
 use answers::Written;
 pub use reader::read;
-ghost use mathlib.Core.Path.{_≡_};
 ghost use lib.ListN.{length};
 ghost use Rattle.answers.specs.Outcome.{Wrote};
 ghost use Rattle.slots.specs.Calls.{writeSlot};

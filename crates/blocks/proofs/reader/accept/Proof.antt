@@ -1,19 +1,31 @@
 -- Both tests come before the datagram is laid. Assumes nothing.
 use mathlib.Core.Path.{_≡_, sym, _∙_}
+use mathlib.Core.Bool.{true}
 use mathlib.Core.List.{map}
-use Prim.Native.Nat.{_≤_, _<_}
 use native.Mathlib.Omega.{arith}
-use lib.ListN.{length-map}
+use lib.ListN.{length, length-map}
 use borrow.Author.Tests.{not-true, not-false}
 use Rattle.answers.proofs.Wrote.{refuses, lays}
 use Rattle.bits.specs.Bits.{isOne}
 use Rattle.bits.specs.Row.{differences}
+use Rattle.distance.specs.Valid.{allZero, bitsOver}
 use Rattle.links.proofs.Facts.{sizes}
 use Rattle.blocks.specs.Block.{imageOf}
+use Rattle.blocks.specs.Coding.{codingOf}
 use Rattle.blocks.proofs.Accepting.{over-refused, far-refused, near-accepted, length-datagram, datagram-laid}
 use borrow.Author.Needs.{needs}
 use Rattle.blocks.proofs.reader.accept.Statement.{statement}
 use Rattle.blocks.proofs.reader.accept.Tie as tie
+
+-- the block's bits, and what came
+abbrev start : tie.After-over-zero → tie.Start
+start c = c .before .before .before .before .before
+
+long : (c : tie.After-over-zero) → length (map isOne (start c .args .u .now)) ≡ start c .args .row .k
+long c = length-map (start c .args .u .now) isOne ∙ start c .pre .1
+
+zero : (c : tie.Else1) → allZero (bitsOver (codingOf (start (c .before) .args .row)) (map isOne (start (c .before) .args .u .now))) ≡ true
+zero c = sym (c .before .over-zero .ensures) ∙ not-false (c .before .over-zero .result) (c .if1 .left)
 
 over-zero-requires : tie.Need-over-zero-requires
 over-zero-requires c κs = search needs
@@ -23,12 +35,8 @@ refuse-requires c κs = search needs
 
 returns : tie.Need-returns
 returns c =
-    let start = c .before .before .before .before .before .before .before in
-    let a = start .args in
-    let came = map isOne (a .came .now) in
-    let u = map isOne (a .u .now) in
-    let long = length-map (a .u .now) isOne ∙ start .pre .1 in
-    refuses (over-refused (a .row) (start .pre .0) came u long (sym (c .before .before .over-zero .ensures) ∙ not-true (c .before .before .over-zero .result) (c .before .if1 .taken))) (c .refuse .ensures)
+    let at = c .before .before in
+    refuses (over-refused _ (start at .pre .0) _ _ (long at) (sym (at .over-zero .ensures) ∙ not-true (at .over-zero .result) (c .before .if1 .taken))) (c .refuse .ensures)
 
 compare-requires : tie.Need-compare-requires
 compare-requires c κs = search needs
@@ -41,17 +49,12 @@ same-length c = search needs
 
 returns-2 : tie.Need-returns-2
 returns-2 c =
-    let start = c .before .before .before .before .before .before .before .before .before .before .before .before in
-    let a = start .args in
-    let came = map isOne (a .came .now) in
-    let u = map isOne (a .u .now) in
-    let long = length-map (a .u .now) isOne ∙ start .pre .1 in
-    let zero = sym (c .before .before .before .before .before .before .before .over-zero .ensures) ∙ not-false (c .before .before .before .before .before .before .before .over-zero .result) (c .before .before .before .before .before .before .if1 .left) in
-    let far : 1 < differences (imageOf (a .row) u) came = omega (arith, c .before .before .before .before .compare .ensures, c .before .if2 .taken) in
-    refuses (far-refused (a .row) (start .pre .0) came u long zero far) (c .refuse2 .ensures)
+    let passed = c .before .before .before .before .before .before in
+    let at = passed .before in
+    refuses (far-refused _ (start at .pre .0) _ _ (long at) (zero passed) (omega (arith, c .before .before .before .before .compare .ensures, c .before .if2 .taken))) (c .refuse2 .ensures)
 
 bytes-held-requires : tie.Need-bytes-held-requires
-bytes-held-requires c κs = sizes (c .before .before .before .before .before .before .before .before .before .before .before .args .row) (c .before .before .before .before .before .before .before .before .before .before .before .pre .0) .check
+bytes-held-requires c κs = sizes _ (start (c .before .before .before .before .before .before) .pre .0) .check
 
 pack-requires : tie.Need-pack-requires
 pack-requires c κs =
@@ -78,20 +81,16 @@ same-length-3 c = search needs
 
 returns-3 : tie.Need-returns-3
 returns-3 c =
-    let start = c .before .before .before .before .before .before .before .before .before .before .before .before .before .before .before .before .before in
-    let a = start .args in
-    let came = map isOne (a .came .now) in
-    let u = map isOne (a .u .now) in
-    let long = length-map (a .u .now) isOne ∙ start .pre .1 in
-    let zero = sym (c .before .before .before .before .before .before .before .before .before .before .before .before .over-zero .ensures) ∙ not-false (c .before .before .before .before .before .before .before .before .before .before .before .before .over-zero .result) (c .before .before .before .before .before .before .before .before .before .before .before .if1 .left) in
-    let d = differences (imageOf (a .row) u) came in
+    let passed = c .before .before .before .before .before .before .before .before .before .before .before in
+    let at = passed .before in
+    let a = start at .args in
+    let compared = c .before .before .before .before .before .before .before .before .before .compare in
     let held = c .before .before .before .before .before .bytes-held .ensures in
-    let near : d ≤ 1 = omega (arith, c .before .before .before .before .before .before .before .before .before .compare .ensures, c .before .before .before .before .before .before .if2 .left) in
-    let count : c .before .before .before .before .before .before .before .before .before .compare .result ≡ d = omega (arith, c .before .before .before .before .before .before .before .before .before .compare .ensures, c .before .before .before .before .before .before .if2 .left) in
+    let count : compared .result ≡ differences (imageOf (a .row) (map isOne (a .u .now))) (map isOne (a .came .now)) = omega (arith, compared .ensures, c .before .before .before .before .before .before .if2 .left) in
     lays
-    (near-accepted (a .row) (start .pre .0) came u long zero near)
-    (rw (length-datagram (a .row) u, ← held, ← count) (c .answer .ensures))
-    (datagram-laid (a .row) u (a .out .now) _ held (c .before .before .before .pack .ensures))
+    (near-accepted _ (start at .pre .0) _ _ (long at) (zero passed) (omega (arith, count, c .before .before .before .before .before .before .if2 .left)))
+    (rw (length-datagram (a .row) (map isOne (a .u .now)), ← held, ← count) (c .answer .ensures))
+    (datagram-laid (a .row) (map isOne (a .u .now)) (a .out .now) _ held (c .before .before .before .pack .ensures))
 
 pub accept-spec : {M : Type 1} → statement M
 accept-spec =
