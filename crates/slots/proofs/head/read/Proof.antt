@@ -1,18 +1,52 @@
 -- One law for each way that the head goes. Assumes nothing.
-use mathlib.Core.Path.{sym, ap, _∙_}
+use mathlib.Core.Path.{_≡_, sym, ap, _∙_}
+use mathlib.Core.Bool.{true}
+use mathlib.Core.List.{List}
+use Prim.Native.Nat.{ℕ}
 use native.Mathlib.Omega.{arith}
-use lib.Dec.{eqb}
 use lib.Seq.{length-take-le}
 use borrow.Author.Needs.{needs}
 use borrow.Author.Tests.{not-true, not-false, eqb-true, eqb-false}
+use Rattle.answers.specs.Numbers.{done}
+use Rattle.bits.specs.Bits.{allBits}
 use Rattle.words.specs.declared.Word.{Word}
 use Rattle.words.proofs.Ways.{no-word}
-use Rattle.slots.specs.Burst.{trainingLength, headLength, wordPart}
-use Rattle.slots.specs.Calls.{trainingWrong, slotWord}
+use Rattle.slots.specs.Burst.{trainingLength, headLength, headPart}
+use Rattle.slots.specs.Calls.{trainingWrong, slotWord, readHead}
 use Rattle.slots.proofs.Calls.{head-short, head-no-bit, head-no-training, head-word, word-refused, word-no-slot, word-slot}
 use Rattle.slots.proofs.Parts.{training-bits, word-long, word-bits}
 use Rattle.slots.proofs.head.read.Statement.{statement}
 use Rattle.slots.proofs.head.read.Tie as tie
+
+-- ---- what is known of the burst behind each test that did not refuse
+abbrev burst : tie.Else1 → List ℕ
+burst c = c .before .before .args .burst .now
+
+abbrev long : tie.Else2 → tie.Else1
+long c = c .before .before .before
+
+all : (c : tie.Else2) → allBits (headPart (burst (long c))) ≡ true
+all c = sym (c .before .all-bits .ensures) ∙ not-false _ (c .if2 .left)
+
+-- where the training was compared and the word was read
+abbrev bits : tie.After-struct-known → tie.Else2
+bits c = c .before .before .before .before .before
+
+counted : (c : tie.After-struct-known) → c .before .before .before .wrong .result ≡ trainingWrong (burst (long (bits c)))
+unfolding trainingWrong
+counted c = c .before .before .before .wrong .ensures
+
+abbrev word : tie.After-struct-known → Word
+word c = c .before .read .result
+
+head : (c : tie.Else3) → readHead (burst (long (bits (c .before)))) ≡ slotWord (word (c .before))
+head c =
+    let at = bits (c .before) in
+    let trained = eqb-true _ 0 (not-false _ (c .if3 .left)) in
+    head-word (burst (long at)) (long at .if1 .left) (all at) (sym (counted (c .before)) ∙ trained) ∙ ap slotWord (sym (c .before .before .read .ensures))
+
+named : (c : tie.Else4) → word (c .before .before) .status ≡ done
+named c = eqb-true _ done (not-false _ (c .if4 .left))
 
 refuse-requires : tie.Need-refuse-requires
 refuse-requires c κs = search needs
@@ -21,7 +55,7 @@ returns : tie.Need-returns
 returns c = c .refuse .ensures ∙ sym (head-short (c .before .before .before .args .burst .now) (c .before .if1 .taken))
 
 slice-aggregate-all-bits : tie.Need-slice-aggregate-all-bits
-slice-aggregate-all-bits c = sym (length-take-le headLength (c .before .before .before .args .burst .now) (c .before .if1 .left))
+slice-aggregate-all-bits c = sym (length-take-le headLength (burst (c .before)) (c .before .if1 .left))
 
 all-bits-requires : tie.Need-all-bits-requires
 all-bits-requires c κs = search needs
@@ -31,23 +65,19 @@ refuse-requires-2 c κs = search needs
 
 returns-2 : tie.Need-returns-2
 returns-2 c =
-    let burst = c .before .before .before .before .before .before .args .burst .now in
+    let at = c .before .before .before .before in
     let tested = c .before .before .all-bits in
-    let none = sym (tested .ensures) ∙ not-true (tested .result) (c .before .if2 .taken) in
-    c .refuse2 .ensures ∙ sym (head-no-bit burst (c .before .before .before .before .if1 .left) none)
+    c .refuse2 .ensures ∙ sym (head-no-bit (burst at) (at .if1 .left) (sym (tested .ensures) ∙ not-true (tested .result) (c .before .if2 .taken)))
 
 slice-aggregate-wrong : tie.Need-slice-aggregate-wrong
 slice-aggregate-wrong c =
-    let burst = c .before .before .before .before .before .before .args .burst .now in
-    sym (length-take-le trainingLength burst (omega (arith, c .before .before .before .before .if1 .left)))
+    let at = long (c .before) in
+    sym (length-take-le trainingLength (burst at) (omega (arith, at .if1 .left)))
 
 wrong-requires : tie.Need-wrong-requires
 wrong-requires c κs =
-    let burst = c .before .before .before .before .before .before .args .burst .now in
-    let tested = c .before .before .all-bits in (
-      length-take-le trainingLength burst (omega (arith, c .before .before .before .before .if1 .left)),
-      training-bits burst (sym (tested .ensures) ∙ not-false (tested .result) (c .before .if2 .left)),
-    )
+    let at = long (c .before) in
+    (length-take-le trainingLength (burst at) (omega (arith, at .if1 .left)), training-bits (burst at) (all (c .before)))
 
 sub-read : tie.Need-sub-read
 sub-read c = search needs
@@ -65,35 +95,24 @@ refuse-requires-3 : tie.Need-refuse-requires-3
 refuse-requires-3 c κs = search needs
 
 returns-3 : tie.Need-returns-3
-unfolding trainingWrong
 returns-3 c =
-    let read = c .before .before .before in
-    let burst = read .before .before .before .before .before .before .before .before .before .args .burst .now in
-    let long = read .before .before .before .before .before .before .before .if1 .left in
-    let tested = read .before .before .before .before .before .all-bits in
-    let all = sym (tested .ensures) ∙ not-false (tested .result) (read .before .before .before .before .if2 .left) in
-    let counted = read .before .before .wrong in
-    let untrained = eqb-false (counted .result) 0 (not-true (eqb (counted .result) 0) (c .before .if3 .taken)) in
-    c .refuse3 .ensures ∙ sym (head-no-training burst long all (λ e. untrained (counted .ensures ∙ e)))
+    let read = c .before .before in
+    let at = bits read in
+    let untrained = eqb-false (read .before .before .before .wrong .result) 0 (not-true _ (c .before .if3 .taken)) in
+    c .refuse3 .ensures ∙ sym (head-no-training (burst (long at)) (long at .if1 .left) (all at) (λ e. untrained (counted read ∙ e)))
 
 refuse-requires-4 : tie.Need-refuse-requires-4
 refuse-requires-4 c κs = search needs
 
 returns-4 : tie.Need-returns-4
-unfolding trainingWrong
 returns-4 c =
-    let read = c .before .before .before .before in
-    let burst = read .before .before .before .before .before .before .before .before .before .args .burst .now in
-    let long = read .before .before .before .before .before .before .before .if1 .left in
-    let tested = read .before .before .before .before .before .all-bits in
-    let all = sym (tested .ensures) ∙ not-false (tested .result) (read .before .before .before .before .if2 .left) in
-    let counted = read .before .before .wrong in
-    let trained = sym (counted .ensures) ∙ eqb-true (counted .result) 0 (not-false (eqb (counted .result) 0) (c .before .before .if3 .left)) in
-    let word = read .read .result in
-    let head = head-word burst long all trained ∙ ap slotWord (sym (read .read .ensures)) in
-    let nameless = eqb-false (word .status) 0 (not-true (eqb (word .status) 0) (c .before .if4 .taken)) in
-    let far = no-word (wordPart burst) (word-long burst long) (word-bits burst all) (λ e. nameless (ap (λ (w : Word). w .status) (read .read .ensures) ∙ e)) in
-    c .refuse4 .ensures ∙ sym (head ∙ word-refused word nameless ∙ read .read .ensures ∙ far)
+    let trained = c .before .before in
+    let read = trained .before in
+    let at = bits read in
+    let nameless = eqb-false (word read .status) done (not-true _ (c .before .if4 .taken)) in
+    let far =
+    no-word _ (word-long (burst (long at)) (long at .if1 .left)) (word-bits (burst (long at)) (all at)) (λ e. nameless (ap (λ (w : Word). w .status) (read .before .read .ensures) ∙ e)) in
+    c .refuse4 .ensures ∙ sym (head trained ∙ word-refused (word read) nameless ∙ read .before .read .ensures ∙ far)
 
 is-slot-link-requires : tie.Need-is-slot-link-requires
 is-slot-link-requires c κs = search needs
@@ -102,36 +121,16 @@ refuse-requires-5 : tie.Need-refuse-requires-5
 refuse-requires-5 c κs = search needs
 
 returns-5 : tie.Need-returns-5
-unfolding trainingWrong
 returns-5 c =
-    let read = c .before .before .before .before .before .before in
-    let burst = read .before .before .before .before .before .before .before .before .before .args .burst .now in
-    let long = read .before .before .before .before .before .before .before .if1 .left in
-    let tested = read .before .before .before .before .before .all-bits in
-    let all = sym (tested .ensures) ∙ not-false (tested .result) (read .before .before .before .before .if2 .left) in
-    let counted = read .before .before .wrong in
-    let trained = sym (counted .ensures) ∙ eqb-true (counted .result) 0 (not-false (eqb (counted .result) 0) (c .before .before .before .before .if3 .left)) in
-    let word = read .read .result in
-    let head = head-word burst long all trained ∙ ap slotWord (sym (read .read .ensures)) in
-    let named = eqb-true (word .status) 0 (not-false (eqb (word .status) 0) (c .before .before .before .if4 .left)) in
+    let at = c .before .before .before in
     let slot = c .before .before .is-slot-link in
-    c .refuse5 .ensures ∙ sym (head ∙ word-no-slot word named (sym (slot .ensures) ∙ not-true (slot .result) (c .before .if5 .taken)))
+    c .refuse5 .ensures ∙ sym (head (at .before) ∙ word-no-slot _ (named at) (sym (slot .ensures) ∙ not-true (slot .result) (c .before .if5 .taken)))
 
 returns-6 : tie.Need-returns-6
-unfolding trainingWrong
 returns-6 c =
-    let read = c .before .before .before .before .before in
-    let burst = read .before .before .before .before .before .before .before .before .before .args .burst .now in
-    let long = read .before .before .before .before .before .before .before .if1 .left in
-    let tested = read .before .before .before .before .before .all-bits in
-    let all = sym (tested .ensures) ∙ not-false (tested .result) (read .before .before .before .before .if2 .left) in
-    let counted = read .before .before .wrong in
-    let trained = sym (counted .ensures) ∙ eqb-true (counted .result) 0 (not-false (eqb (counted .result) 0) (c .before .before .before .if3 .left)) in
-    let word = read .read .result in
-    let head = head-word burst long all trained ∙ ap slotWord (sym (read .read .ensures)) in
-    let named = eqb-true (word .status) 0 (not-false (eqb (word .status) 0) (c .before .before .if4 .left)) in
+    let at = c .before .before in
     let slot = c .before .is-slot-link in
-    sym (head ∙ word-slot word named (sym (slot .ensures) ∙ not-false (slot .result) (c .if5 .left)))
+    sym (head (at .before) ∙ word-slot _ (named at) (sym (slot .ensures) ∙ not-false (slot .result) (c .if5 .left)))
 
 pub read-spec : {M : Type 1} → statement M
 read-spec =
