@@ -95,14 +95,15 @@ bytesOf-filled m n row h = sym (bytesOf-take m (filled n row)) ∙ ap (bytesOf m
 pub byte-small : (row : List Bool) → number (take 8 row) < 256
 byte-small row = omega (arith, number-lt (take 8 row), pow-le-pow-right {n = 2} (zero-lt-suc 1) {i = length (take 8 row)} {j = 8} (simp length-take (omega arith)))
 
+-- the bits behind byte j
+pub after-byte : (j : ℕ) (row : List ℕ) → map isOne (drop ((j + 1) * 8) row) ≡ drop 8 (map isOne (drop (j * 8) row))
+after-byte j row = let next : (j + 1) * 8 ≡ j * 8 + 8 = omega arith in rw (next, ← drop-drop 8 (j * 8) row) (map-drop isOne 8 (drop (j * 8) row))
+
 -- byte by byte: what is left to lay at j begins with the byte that the row's next eight bits make
 pub bytes-more : (m j : ℕ) (row : List ℕ) → j < m
     → bytesOf (m - j) (map isOne (drop (j * 8) row)) ≡ number (take 8 (map isOne (drop (j * 8) row))) ∷ bytesOf (m - (j + 1)) (map isOne (drop ((j + 1) * 8) row))
 unfolding bytesOf
-bytes-more m j row h =
-    let left : m - j ≡ suc (m - (j + 1)) = omega arith in
-    let next : j * 8 + 8 ≡ (j + 1) * 8 = omega arith in
-    rw (left, ← next, ← drop-drop 8 (j * 8) row, map-drop isOne 8 (drop (j * 8) row))
+bytes-more m j row h = let left : m - j ≡ suc (m - (j + 1)) = omega arith in rw (left, after-byte j row)
 
 pub bytes-done : (m j : ℕ) (row : List ℕ) → m ≤ j → bytesOf (m - j) (map isOne (drop (j * 8) row)) ≡ []
 unfolding bytesOf
@@ -122,14 +123,15 @@ bytesOf-bitsOf (b ∷ datagram) e =
     let rest = drop-at (highFirst 8 b) (bitsOf datagram) 8 (length-highFirst 8 b) in
     ap₂ _∷_ (ap number first ∙ number-highFirst 8 b (ltb-true b 256 (p .0))) (ap (bytesOf (length datagram)) rest ∙ bytesOf-bitsOf datagram (p .1))
 
+pub byte-bits : (row : List Bool) → 8 ≤ length row → highFirst 8 (number (take 8 row)) ≡ take 8 row
+byte-bits row h = rw (length-take-le 8 row h) at (highFirst-number (take 8 row))
+
 pub bitsOf-bytesOf : (m : ℕ) (row : List Bool) → length row ≡ m * 8 → bitsOf (bytesOf m row) ≡ row
 unfolding bitsOf bytesOf
 bitsOf-bytesOf zero [] e = refl
 bitsOf-bytesOf zero (b ∷ row) e = absurd (omega arith)
 bitsOf-bytesOf (suc m) row e =
-    let eight = length-take-le 8 row (omega arith) in
-    let first : highFirst 8 (number (take 8 row)) ≡ take 8 row = rw eight at (highFirst-number (take 8 row)) in
-    ap₂ _++_ first (bitsOf-bytesOf m (drop 8 row) (simp length-drop (omega arith))) ∙ take-append-drop 8 row
+    ap₂ _++_ (byte-bits row (omega arith)) (bitsOf-bytesOf m (drop 8 row) (simp length-drop (omega arith))) ∙ take-append-drop 8 row
 
 zeros-bytes : (k : ℕ) → allBytes (replicate k 0) ≡ true
 unfolding every

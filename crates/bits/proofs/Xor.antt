@@ -102,8 +102,9 @@ pub ⊕-times : (c x y : ℕ) → x < 2 → y < 2 → (x ⊕ y) * c ≡ (x * c) 
 ⊕-times c (suc zero) (suc (suc y)) h l = absurd (omega arith)
 ⊕-times c (suc (suc x)) y h l = absurd (omega arith)
 
+pub ⊕-place : (i a b : ℕ) → (a ⊕ b) / 2 ^ i % 2 ≡ (a / 2 ^ i % 2) ⊕ (b / 2 ^ i % 2)
+unfolding _⊕_
+⊕-place i a b = ap (λ (n : ℕ). n % 2) (xor-shr a b i) ∙ xor-mod (a / 2 ^ i) (b / 2 ^ i) 1
+
 pub ⊕-digit : (i c a b : ℕ) → (a ⊕ b) / 2 ^ i % 2 * c ≡ (a / 2 ^ i % 2 * c) ⊕ (b / 2 ^ i % 2 * c)
-⊕-digit i c a b = ap (λ (x : ℕ). x * c) (digit i a b) ∙ ⊕-times c (a / 2 ^ i % 2) (b / 2 ^ i % 2) (odd (a / 2 ^ i)) (odd (b / 2 ^ i))
-  where
-    digit : (i a b : ℕ) → (a ⊕ b) / 2 ^ i % 2 ≡ (a / 2 ^ i % 2) ⊕ (b / 2 ^ i % 2)
-    digit i a b = unfold _⊕_ in ap (λ (n : ℕ). n % 2) (xor-shr a b i) ∙ xor-mod (a / 2 ^ i) (b / 2 ^ i) 1
+⊕-digit i c a b = ap (λ (x : ℕ). x * c) (⊕-place i a b) ∙ ⊕-times c (a / 2 ^ i % 2) (b / 2 ^ i % 2) (odd (a / 2 ^ i)) (odd (b / 2 ^ i))

@@ -6,7 +6,7 @@ ghost use mathlib.Core.Bool.{true, false};
 ghost use Prim.Native.Nat.{_+_, _*_, _≤_, min};
 ghost use lib.Bits.{bitXor};
 ghost use lib.Count.{ones};
-ghost use lib.ListN.{length, getD};
+ghost use lib.ListN.{length, getD, take, drop};
 ghost use Rattle.lists.specs.Over.{over};
 ghost use Rattle.bits.specs.Bits.{allBits, byte, isOne};
 ghost use Rattle.bits.specs.Datagram.{bitsOf, filled, bytesOf};
@@ -74,14 +74,22 @@ pub fn unpack(datagram: &[u8], n: usize, row: &mut [u8])
     }
 }
 
+// Byte j of a row of bits, the first of its eight the highest.
+pub fn byte_at(row: &[u8], j: usize) -> u8
+    requires { ⌜ j * 8 + 8 ≤ length (now row) ⌝ }
+    ensures { λ r. ⌜ r ≡ number (take 8 (map isOne (drop (j * 8) (now (row .entry))))) ⌝ }
+{
+    let at = j * 8;
+    number_of(&row[at..at + 8]) as u8
+}
+
 // Lays the bytes that a row begins with, `count` of them, at the start of a buffer.
 pub fn pack(row: &[u8], count: usize, out: &mut [u8])
     requires { ⌜ (count * 8 ≤ length (now row)) × (count ≤ length (now out)) ⌝ }
     ensures { λ _. ⌜ now (out .exit) ≡ over 0 (bytesOf count (map isOne (now (row .entry)))) (now (out .entry)) ⌝ }
 {
     for j in 0..count {
-        let at = j * 8;
-        out[j] = number_of(&row[at..at + 8]) as u8;
+        out[j] = byte_at(row, j);
     }
 }
 

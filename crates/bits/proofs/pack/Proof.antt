@@ -9,7 +9,7 @@ use Rattle.lists.specs.Over.{Laying}
 use Rattle.lists.proofs.Over.{start, fits, more, done}
 use Rattle.bits.specs.Bits.{isOne}
 use Rattle.bits.specs.Datagram.{bytesOf}
-use Rattle.bits.proofs.Datagram.{length-bytesOf, byte-small, bytes-more, bytes-done, part-bits}
+use Rattle.bits.proofs.Datagram.{length-bytesOf, bytes-more, bytes-done}
 use Rattle.bits.proofs.pack.Statement.{statement}
 use Rattle.bits.proofs.pack.Tie as tie
 
@@ -25,33 +25,13 @@ loop-holds c =
     let a = c .before .before .args in
     (search needs, rw sub-zero (start (a .out .now) 0 (bytesOf (a .count) (map isOne (a .row .now))) (simp length-bytesOf (omega arith))))
 
-mul-at : tie.Need-mul-at Inv-loop μ-loop
-mul-at c = search needs
-
-add-number-of : tie.Need-add-number-of Inv-loop μ-loop
-add-number-of c = search needs
-
-sub-number-of : tie.Need-sub-number-of Inv-loop μ-loop
-sub-number-of c = search needs
-
-part-number-of-start : tie.Need-part-number-of-start Inv-loop μ-loop
-part-number-of-start c = search needs
-
-part-number-of-end : tie.Need-part-number-of-end Inv-loop μ-loop
-part-number-of-end c = search needs
-
-number-of-requires : tie.Need-number-of-requires Inv-loop μ-loop
-number-of-requires c κs = search needs
-
-cast-out : tie.Need-cast-out Inv-loop μ-loop
-cast-out c =
-    let row = c .before .before .before .before .before .before .args .row .now in
-    record { fits = rw (c .number-of .ensures, part-bits) (byte-small (map isOne (drop (c .before .before .before .loop .j * 8) row))) }
+byte-at-requires : tie.Need-byte-at-requires Inv-loop μ-loop
+byte-at-requires c κs = search needs
 
 slice-write-out : tie.Need-slice-write-out Inv-loop μ-loop
 slice-write-out c =
-    let a = c .before .before .before .before .before .before .args in
-    let at = c .before .before .before .loop in
+    let a = c .before .before .before .before .before .args in
+    let at = c .before .before .loop in
     fits _ _ (at .inv .1) (bytes-more (a .count) (at .j) (a .row .now) (omega arith))
 
 add-j : tie.Need-add-j Inv-loop μ-loop
@@ -62,9 +42,9 @@ loop-less c = search needs
 
 loop-again : tie.Need-loop-again Inv-loop μ-loop
 loop-again c =
-    let a = c .before .before .before .before .before .before .args in
-    let at = c .before .before .before .loop in
-    (search needs, rw (c .number-of .ensures, part-bits) (more _ _ (at .inv .1) (bytes-more (a .count) (at .j) (a .row .now) (omega arith))))
+    let a = c .before .before .before .before .before .args in
+    let at = c .before .before .loop in
+    (search needs, rw (c .byte-at .ensures) (more _ _ (at .inv .1) (bytes-more (a .count) (at .j) (a .row .now) (omega arith))))
 
 same-length : tie.Need-same-length Inv-loop μ-loop
 same-length c = c .before .loop .inv .1 .long
@@ -81,13 +61,7 @@ pack-spec =
     Inv-loop
     μ-loop
     loop-holds
-    mul-at
-    add-number-of
-    sub-number-of
-    part-number-of-start
-    part-number-of-end
-    number-of-requires
-    cast-out
+    byte-at-requires
     slice-write-out
     add-j
     loop-less
