@@ -1,6 +1,9 @@
+pub mod ByteStep
+pub mod ByteTable
 pub mod Closing
 pub mod Fast
 pub mod Linear
+pub mod OwnBits
 pub mod Residue
 pub mod TimesX
 pub mod Vectors

@@ -1,2 +1,3 @@
+pub mod Bytes
 pub mod Check
 pub mod Residue

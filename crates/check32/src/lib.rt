@@ -1,8 +1,12 @@
 // The 32-bit check (M.2092-1, Annex 2, 1.2.5): the register over a row of bits, and the bit that it tells of.
+mod bytes;
+
 ghost use mathlib.Core.Path.{_≡_};
 ghost use mathlib.Core.List.{map};
 ghost use Rattle.bits.specs.Bits.{isOne};
-ghost use Rattle.check32.specs.Check.{step, register};
+ghost use Rattle.bits.specs.Row.{highFirst};
+ghost use Rattle.check32.specs.Bytes.{ByteResidues};
+ghost use Rattle.check32.specs.Check.{step, registerFrom, register};
 ghost use Rattle.check32.specs.Residue.{bitsAfter};
 
 // One bit goes into the register at its high end, and the register moves up a place; the generator is added where a one falls out.
@@ -13,12 +17,29 @@ pub fn step(r: u32, bit: bool) -> u32
     (fed << 1) ^ ((fed >> 31) * 0x04C11DB7)
 }
 
+// Eight bits go in at once, the highest of a byte first: the register moves up by eight places, and what falls out of it and the byte
+// together leave their residue.
+fn step_byte(r: u32, byte: u8, residues: &[u32; 32]) -> u32
+    requires { ⌜ ByteResidues (now residues) ⌝ }
+    ensures { λ v. ⌜ v ≡ registerFrom r (highFirst 8 byte) ⌝ }
+{
+    let out = ((r >> 24) as u8) ^ byte;
+    let low = residues[(out % 16) as usize];
+    let high = residues[(out / 16) as usize + 16];
+    (r << 8) ^ (high ^ low)
+}
+
 // The register after a row of bits, one to a byte: 0 where the row closes.
 pub fn register(bits: &[u8]) -> u32
     ensures { λ r. ⌜ r ≡ register (map isOne (now (bits .entry))) ⌝ }
 {
+    let residues = bytes::residues();
     let mut r: u32 = 0xFFFFFFFF;
-    for i in 0..bits.len() {
+    for j in 0..bits.len() / 8 {
+        r = step_byte(r, bits::byte_at(bits, j), &residues);
+    }
+    // the rest, bit by bit
+    for i in bits.len() / 8 * 8..bits.len() {
         r = step(r, bits[i] == 1);
     }
     r

@@ -1,47 +1,85 @@
--- Bit by bit: the register so far and the bits that are left give what the whole row gives. Assumes nothing.
+-- Byte by byte, and the rest bit by bit: the register so far and the bits that are left give what the whole row gives. Assumes nothing.
 use mathlib.Core.Path.{_≡_, refl, sym, _∙_}
 use mathlib.Core.List.{map}
-use Prim.Native.Nat.{_-_, _≤_}
+use Prim.Native.Nat.{_-_, _*_, _/_, _≤_}
 use native.Mathlib.Omega.{arith}
 use lib.ListN.{length, drop}
 use borrow.Author.Needs.{needs}
 use Rattle.bits.specs.Bits.{isOne}
 use Rattle.check32.specs.Check.{registerFrom, register}
+use Rattle.check32.proofs.ByteStep.{register-byte}
 use Rattle.check32.proofs.Word.{register-more, register-done}
 use Rattle.check32.proofs.register.Statement.{statement}
 use Rattle.check32.proofs.register.Tie as tie
 
 abbrev Inv-loop : tie.InvT-loop
-Inv-loop bits r₀ i₀ i-end r i = (i ≤ i-end) × (i-end ≡ length bits) × (registerFrom r (map isOne (drop i bits)) ≡ register (map isOne bits))
+Inv-loop bits residues r₀ j₀ j-end r j =
+    (j ≤ j-end) × (j-end ≡ length bits / 8) × (registerFrom r (map isOne (drop (j * 8) bits)) ≡ register (map isOne bits))
 
 abbrev μ-loop : tie.MeasureT-loop
-μ-loop bits r₀ i₀ i-end r i = i-end - i
+μ-loop bits residues r₀ j₀ j-end r j = j-end - j
 
-loop-holds : tie.Need-loop-holds Inv-loop μ-loop
+abbrev Inv-loop2 : tie.InvT-loop2
+Inv-loop2 bits r₀ i₀ i-end r i =
+    (i ≤ i-end) × (i-end ≡ length bits) × (registerFrom r (map isOne (drop i bits)) ≡ register (map isOne bits))
+
+abbrev μ-loop2 : tie.MeasureT-loop2
+μ-loop2 bits r₀ i₀ i-end r i = i-end - i
+
+residues-requires : tie.Need-residues-requires Inv-loop μ-loop Inv-loop2 μ-loop2
+residues-requires c κs = search needs
+
+loop-holds : tie.Need-loop-holds Inv-loop μ-loop Inv-loop2 μ-loop2
 loop-holds c = (search needs, search needs, refl)
 
-shared-slice-read-step : tie.Need-shared-slice-read-step Inv-loop μ-loop
-shared-slice-read-step c = search needs
+byte-at-requires : tie.Need-byte-at-requires Inv-loop μ-loop Inv-loop2 μ-loop2
+byte-at-requires c κs = search needs
 
-step-requires : tie.Need-step-requires Inv-loop μ-loop
-step-requires c κs = search needs
+step-byte-requires : tie.Need-step-byte-requires Inv-loop μ-loop Inv-loop2 μ-loop2
+step-byte-requires c κs = search needs
 
-add-i : tie.Need-add-i Inv-loop μ-loop
-add-i c = search needs
+add-j : tie.Need-add-j Inv-loop μ-loop Inv-loop2 μ-loop2
+add-j c = search needs
 
-loop-less : tie.Need-loop-less Inv-loop μ-loop
+loop-less : tie.Need-loop-less Inv-loop μ-loop Inv-loop2 μ-loop2
 loop-less c = search needs
 
-loop-again : tie.Need-loop-again Inv-loop μ-loop
+loop-again : tie.Need-loop-again Inv-loop μ-loop Inv-loop2 μ-loop2
 loop-again c =
-    let at = c .before .before .before .loop in
-    let bits = c .before .before .before .before .before .args .bits .now in
+    let at = c .before .before .before .before .loop in
+    let bits = c .before .before .before .before .before .before .before .args .bits .now in
+    (search needs, search needs, rw (c .step-byte .ensures, c .before .before .byte-at .ensures) (sym (register-byte bits (at .r) (at .j) (omega arith)) ∙ at .inv .2))
+
+mul-i : tie.Need-mul-i Inv-loop μ-loop Inv-loop2 μ-loop2
+mul-i c = search needs
+
+loop2-holds : tie.Need-loop2-holds Inv-loop μ-loop Inv-loop2 μ-loop2
+loop2-holds c =
+    let end : c .before .loop .j ≡ length (c .before .before .before .before .args .bits .now) / 8 = omega arith in
+    (search needs, search needs, rw end at (c .before .loop .inv .2))
+
+shared-slice-read-step : tie.Need-shared-slice-read-step Inv-loop μ-loop Inv-loop2 μ-loop2
+shared-slice-read-step c = search needs
+
+step-requires : tie.Need-step-requires Inv-loop μ-loop Inv-loop2 μ-loop2
+step-requires c κs = search needs
+
+add-i : tie.Need-add-i Inv-loop μ-loop Inv-loop2 μ-loop2
+add-i c = search needs
+
+loop2-less : tie.Need-loop2-less Inv-loop μ-loop Inv-loop2 μ-loop2
+loop2-less c = search needs
+
+loop2-again : tie.Need-loop2-again Inv-loop μ-loop Inv-loop2 μ-loop2
+loop2-again c =
+    let at = c .before .before .before .loop2 in
+    let bits = c .before .before .before .before .before .before .before .before .args .bits .now in
     (search needs, search needs, rw (c .step .ensures) (sym (register-more bits (at .r) (at .i) (omega arith)) ∙ at .inv .2))
 
-returns : tie.Need-returns Inv-loop μ-loop
+returns : tie.Need-returns Inv-loop μ-loop Inv-loop2 μ-loop2
 returns c =
-    let at = c .before .loop in
-    sym (register-done (c .before .before .before .args .bits .now) (at .r) (at .i) (omega arith)) ∙ at .inv .2
+    let at = c .before .loop2 in
+    sym (register-done (c .before .before .before .before .before .before .args .bits .now) (at .r) (at .i) (omega arith)) ∙ at .inv .2
 
 pub register-spec : {M : Type 1} → statement M
 register-spec =
@@ -49,10 +87,20 @@ register-spec =
     (tie.spec
     Inv-loop
     μ-loop
+    Inv-loop2
+    μ-loop2
+    residues-requires
     loop-holds
+    byte-at-requires
+    step-byte-requires
+    add-j
+    loop-less
+    loop-again
+    mul-i
+    loop2-holds
     shared-slice-read-step
     step-requires
     add-i
-    loop-less
-    loop-again
+    loop2-less
+    loop2-again
     returns)

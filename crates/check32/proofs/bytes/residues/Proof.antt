@@ -1,0 +1,14 @@
+-- Every entry is what antt computes from the definition. Assumes nothing.
+use Rattle.bits.specs.Row.{highFirst}
+use Rattle.bits.specs.Xor.{_⊕_}
+use Rattle.check32.specs.Check.{timesX, step, registerFrom}
+use Rattle.check32.proofs.ByteTable.{tested}
+use Rattle.check32.proofs.bytes.residues.Statement.{statement}
+use Rattle.check32.proofs.bytes.residues.Tie as tie
+
+returns : tie.Need-returns
+unfolding highFirst _⊕_ timesX step registerFrom
+returns c = tested _ tt
+
+pub residues-spec : {M : Type 1} → statement M
+residues-spec = tie.close (tie.spec returns)
