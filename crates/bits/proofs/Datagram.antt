@@ -2,14 +2,14 @@
 -- Assumes nothing.
 use mathlib.Core.Path.{_≡_, refl, sym, ap, ap₂, _∙_}
 use mathlib.Core.Bool.{Bool, true, false}
-use mathlib.Core.List.{List, [], _∷_, _++_, map, append-assoc}
+use mathlib.Core.List.{List, [], _∷_, _++_, map, map-append, append-assoc}
 use Prim.Native.Nat.{ℕ, zero, suc, _+_, _-_, _*_, _/_, _%_, _^_, _≤_, _<_}
 use native.Mathlib.Nat.{zero-add, zero-div, mod-lt, pow-le-pow-right, zero-lt-suc}
 use native.Mathlib.Omega.{arith}
 use borrow.Author.Tests.{ltb-true}
 use lib.Dec.{ltb}
-use lib.ListN.{length, getD, take, drop, replicate, take-append-drop, length-append, length-replicate, length-drop, length-take, List·getD-append, List·getD-eq-default, replicate-append-replicate}
-use lib.Seq.{take-at, drop-at, take-append-le, take-take, length-take-le, getD-append-add, drop-drop}
+use lib.ListN.{length, getD, take, drop, replicate, take-append-drop, length-append, length-replicate, length-drop, length-take, List·getD-append, replicate-append-replicate}
+use lib.Seq.{take-at, drop-at, take-append-le, take-take, length-take-le, getD-append-add, getD-take, getD-drop, drop-drop, ext-getD}
 use Rattle.lists.specs.Every.{every}
 use Rattle.lists.proofs.Parts.{drop-take, map-take, map-drop}
 use Rattle.bits.specs.Bits.{isOne, byte}
@@ -17,7 +17,7 @@ use Rattle.bits.specs.Row.{highFirst, number}
 use Rattle.bits.specs.Datagram.{allBytes, bitsOf, filled, bytesOf}
 use Rattle.bits.proofs.Bits.{byte-isOne, both-true}
 use Rattle.bits.proofs.Row.{length-highFirst, highFirst-at, number-highFirst, highFirst-number, number-lt}
-use Rattle.bits.proofs.Filled.{filled-fits, take-filled}
+use Rattle.bits.proofs.Filled.{length-filled, filled-at, filled-fits, take-filled}
 
 -- ---- bytes to bits
 pub length-bitsOf : (datagram : List ℕ) → length (bitsOf datagram) ≡ length datagram * 8
@@ -41,16 +41,32 @@ bitsOf-at (b ∷ datagram) (suc j) t h =
     let place : suc j * 8 + t ≡ length (highFirst 8 b) + (j * 8 + t) = omega (arith, length-highFirst 8 b) in
     rw place (getD-append-add (highFirst 8 b) (bitsOf datagram) (j * 8 + t) false ∙ bitsOf-at datagram j t h)
 
--- bit i as code picks it, and none behind the end
-pub bit-inside : (datagram : List ℕ) (i : ℕ) → getD datagram (i / 8) 0 / 2 ^ (7 - i % 8) % 2 ≡ byte (getD (bitsOf datagram) i false)
-bit-inside datagram i =
+-- bit i as code picks it
+pub bit-picked : (datagram : List ℕ) (i : ℕ) → getD datagram (i / 8) 0 / 2 ^ (7 - i % 8) % 2 ≡ byte (getD (bitsOf datagram) i false)
+bit-picked datagram i =
     let digit = getD datagram (i / 8) 0 / 2 ^ (7 - i % 8) in
     let place : i / 8 * 8 + i % 8 ≡ i = omega arith in
     sym (byte-isOne (digit % 2) (omega (arith, mod-lt digit {m = 2} (zero-lt-suc 1))))
     ∙ ap byte (sym (bitsOf-at datagram (i / 8) (i % 8) (omega arith)) ∙ ap (λ (k : ℕ). getD (bitsOf datagram) k false) place)
 
-pub bit-behind : (datagram : List ℕ) (i : ℕ) → length datagram ≤ i / 8 → 0 ≡ byte (getD (bitsOf datagram) i false)
-bit-behind datagram i h = ap byte (sym (List·getD-eq-default (bitsOf datagram) false (omega (arith, length-bitsOf datagram))))
+-- byte by byte: what is left to lay at byte j begins with its eight bits
+pub filled-byte : (n j : ℕ) (datagram : List ℕ) → j * 8 + 8 ≤ n
+    → map byte (drop (j * 8) (filled n (bitsOf datagram))) ≡ map byte (highFirst 8 (getD datagram j 0)) ++ map byte (drop ((j + 1) * 8) (filled n (bitsOf datagram)))
+filled-byte n j datagram h =
+    let row = filled n (bitsOf datagram) in
+    let left = drop (j * 8) row in
+    let value = getD datagram j 0 in
+    let next : j * 8 + 8 ≡ (j + 1) * 8 = omega arith in
+    let eight = length-take-le 8 left (simp (length-drop, length-filled) (omega arith)) in
+    let at : (t : ℕ) → t < 8 → getD (take 8 left) t false ≡ getD (highFirst 8 value) t false =
+    λ t l. let place : 8 - suc t ≡ 7 - t = omega arith in
+    getD-take 8 left t false l
+    ∙ getD-drop (j * 8) row t false
+    ∙ filled-at n (bitsOf datagram) (j * 8 + t) (omega arith)
+    ∙ bitsOf-at datagram j t l
+    ∙ sym (rw place at (highFirst-at 8 value t l)) in
+    let first : take 8 left ≡ highFirst 8 value = ext-getD false _ _ (eight ∙ sym (length-highFirst 8 value)) (λ t l. at t (rw eight at l)) in
+    ap (map byte) (sym (take-append-drop 8 left) ∙ ap₂ _++_ first (drop-drop 8 (j * 8) row ∙ ap (λ (k : ℕ). drop k row) next)) ∙ map-append byte (highFirst 8 value) (drop ((j + 1) * 8) row)
 
 zero-bytes : (n : ℕ) → bitsOf (replicate n 0) ≡ replicate (n * 8) false
 unfolding bitsOf highFirst

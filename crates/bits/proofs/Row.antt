@@ -52,20 +52,17 @@ pub below-32 : (w i : ℕ) → i < 32 → w < 2 ^ i → w < 2147483648
 below-32 w i h l = omega (arith, pow-le-pow-right {n = 2} (zero-lt-suc 1) {i = i} {j = 31} (omega arith))
 
 -- ---- the bits of a number, bit by bit
-left : (i : ℕ) → i < 32 → 32 - i ≡ suc (31 - i)
-left i h = omega arith
-
--- what is left to lay at i begins with the digit 31 - i
-pub bits-more : (w i : ℕ) → i < 32 → map byte (highFirst (32 - i) w) ≡ w / 2 ^ (31 - i) % 2 ∷ map byte (highFirst (32 - (i + 1)) w)
+-- what is left to lay of n bits at i begins with the digit n - (i + 1)
+pub bits-more : (n w i : ℕ) → i < n → map byte (highFirst (n - i) w) ≡ w / 2 ^ (n - (i + 1)) % 2 ∷ map byte (highFirst (n - (i + 1)) w)
 unfolding highFirst
-bits-more w i h =
-    let next : 32 - (i + 1) ≡ 31 - i = omega arith in
-    let small : w / 2 ^ (31 - i) % 2 < 2 = mod-lt (w / 2 ^ (31 - i)) (zero-lt-suc 1) in
-    rw (left i h, next) (ap (λ (x : ℕ). x ∷ map byte (highFirst (31 - i) w)) (byte-isOne (w / 2 ^ (31 - i) % 2) (omega arith)))
+bits-more n w i h =
+    let digit = w / 2 ^ (n - (i + 1)) % 2 in
+    let left : n - i ≡ suc (n - (i + 1)) = omega arith in
+    rw left (ap (λ (x : ℕ). x ∷ map byte (highFirst (n - (i + 1)) w)) (byte-isOne digit (omega (arith, mod-lt (w / 2 ^ (n - (i + 1))) {m = 2} (zero-lt-suc 1)))))
 
-pub bits-done : (w i : ℕ) → 32 ≤ i → map byte (highFirst (32 - i) w) ≡ []
+pub bits-done : (n w i : ℕ) → n ≤ i → map byte (highFirst (n - i) w) ≡ []
 unfolding highFirst
-bits-done w i h = let none : 32 - i ≡ 0 = omega arith in rw none
+bits-done n w i h = let none : n - i ≡ 0 = omega arith in rw none
 
 -- ---- a number's bits make the number
 back : (n a w : ℕ) → numberOn a (highFirst n w) ≡ a * 2 ^ n + w % 2 ^ n

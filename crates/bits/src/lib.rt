@@ -43,25 +43,39 @@ pub fn number_of(row: &[u8]) -> u32
     word
 }
 
+// Lays the `count` lowest bits of a number, the highest of them first, over a buffer from a place on.
+fn lay_bits(word: u32, count: usize, out: &mut [u8], at: usize)
+    requires { ⌜ (count ≤ 32) × (at + count ≤ length (now out)) ⌝ }
+    ensures { λ _. ⌜ now (out .exit) ≡ over at (map byte (highFirst count word)) (now (out .entry)) ⌝ }
+{
+    for i in 0..count {
+        out[at + i] = ((word >> (count - (i + 1))) % 2) as u8;
+    }
+}
+
 // Lays the 32 bits of a number, the highest first, over a buffer from a place on.
 pub fn lay_row(word: u32, out: &mut [u8], at: usize)
     requires { ⌜ at + 32 ≤ length (now out) ⌝ }
     ensures { λ _. ⌜ now (out .exit) ≡ over at (map byte (highFirst 32 word)) (now (out .entry)) ⌝ }
 {
-    for i in 0..32 {
-        out[at + i] = ((word >> (31 - i)) % 2) as u8;
+    lay_bits(word, 32, out, at);
+}
+
+// Byte j of a datagram, 0 behind its end.
+fn datagram_byte(datagram: &[u8], j: usize) -> u8
+    ensures { λ r. ⌜ r ≡ getD (now (datagram .entry)) j 0 ⌝ }
+{
+    if j >= datagram.len() {
+        return 0;
     }
+    datagram[j]
 }
 
 // Bit i of a datagram, 0 behind its end.
 fn bit_at(datagram: &[u8], i: usize) -> u8
     ensures { λ r. ⌜ r ≡ byte (getD (bitsOf (now (datagram .entry))) i false) ⌝ }
 {
-    let at = i / 8;
-    if at >= datagram.len() {
-        return 0;
-    }
-    (datagram[at] >> (7 - i % 8)) % 2
+    (datagram_byte(datagram, i / 8) >> (7 - i % 8)) % 2
 }
 
 // Lays the first n bits of a datagram, zero bits behind its end, at the start of a row.
@@ -69,7 +83,11 @@ pub fn unpack(datagram: &[u8], n: usize, row: &mut [u8])
     requires { ⌜ n ≤ length (now row) ⌝ }
     ensures { λ _. ⌜ now (row .exit) ≡ over 0 (map byte (filled n (bitsOf (now (datagram .entry))))) (now (row .entry)) ⌝ }
 {
-    for i in 0..n {
+    for j in 0..n / 8 {
+        lay_bits(datagram_byte(datagram, j) as u32, 8, row, j * 8);
+    }
+    // the rest, bit by bit
+    for i in n / 8 * 8..n {
         row[i] = bit_at(datagram, i);
     }
 }

@@ -1,7 +1,7 @@
--- Bit by bit: what is left to lay at i is the row of the 32 - i lowest digits. Assumes nothing.
+-- Bit by bit: what is left to lay at i is the row of the count - i lowest digits. Assumes nothing.
 use mathlib.Core.List.{map}
 use Prim.Native.Nat.{_+_, _-_, _≤_}
-use native.Mathlib.Nat.{add-zero, add-assoc}
+use native.Mathlib.Nat.{add-zero, add-assoc, sub-zero}
 use native.Mathlib.Omega.{arith}
 use lib.ListN.{length-map}
 use borrow.Author.Needs.{needs}
@@ -10,19 +10,22 @@ use Rattle.lists.proofs.Over.{start, fits, more, done}
 use Rattle.bits.specs.Bits.{byte}
 use Rattle.bits.specs.Row.{highFirst}
 use Rattle.bits.proofs.Row.{length-highFirst, bits-more, bits-done}
-use Rattle.bits.proofs.lay_row.Statement.{statement}
-use Rattle.bits.proofs.lay_row.Tie as tie
+use Rattle.bits.proofs.lay_bits.Statement.{statement}
+use Rattle.bits.proofs.lay_bits.Tie as tie
 
 abbrev Inv-loop : tie.InvT-loop
-Inv-loop word out₀ at i₀ out i = (i ≤ 32) × Laying out₀ at (map byte (highFirst 32 word)) out (at + i) (map byte (highFirst (32 - i) word))
+Inv-loop word count out₀ at i₀ out i = (i ≤ count) × Laying out₀ at (map byte (highFirst count word)) out (at + i) (map byte (highFirst (count - i) word))
 
 abbrev μ-loop : tie.MeasureT-loop
-μ-loop word out₀ at i₀ out i = 32 - i
+μ-loop word count out₀ at i₀ out i = count - i
 
 loop-holds : tie.Need-loop-holds Inv-loop μ-loop
 loop-holds c =
     let a = c .args in
-    (search needs, rw add-zero (start (a .out .now) (a .at) (map byte (highFirst 32 (a .word))) (simp (length-map, length-highFirst) (omega arith))))
+    (search needs, rw (add-zero, sub-zero) (start (a .out .now) (a .at) (map byte (highFirst (a .count) (a .word))) (simp (length-map, length-highFirst) (omega arith))))
+
+add-out : tie.Need-add-out Inv-loop μ-loop
+add-out c = search needs
 
 sub-out : tie.Need-sub-out Inv-loop μ-loop
 sub-out c = search needs
@@ -36,14 +39,14 @@ shr-out c = search needs
 cast-out-2 : tie.Need-cast-out-2 Inv-loop μ-loop
 cast-out-2 c = search needs
 
-add-out : tie.Need-add-out Inv-loop μ-loop
-add-out c = search needs
+add-out-2 : tie.Need-add-out-2 Inv-loop μ-loop
+add-out-2 c = search needs
 
 slice-write-out : tie.Need-slice-write-out Inv-loop μ-loop
 slice-write-out c =
     let a = c .before .before .args in
     let at = c .before .loop in
-    fits _ _ (at .inv .1) (bits-more (a .word) (at .i) (omega arith))
+    fits _ _ (at .inv .1) (bits-more (a .count) (a .word) (at .i) (omega arith))
 
 add-i : tie.Need-add-i Inv-loop μ-loop
 add-i c = search needs
@@ -55,26 +58,27 @@ loop-again : tie.Need-loop-again Inv-loop μ-loop
 loop-again c =
     let a = c .before .before .args in
     let at = c .before .loop in
-    (search needs, rw (← add-assoc) (more _ _ (at .inv .1) (bits-more (a .word) (at .i) (omega arith))))
+    (search needs, rw (← add-assoc) (more _ _ (at .inv .1) (bits-more (a .count) (a .word) (at .i) (omega arith))))
 
 same-length : tie.Need-same-length Inv-loop μ-loop
 same-length c = c .before .loop .inv .1 .long
 
 returns : tie.Need-returns Inv-loop μ-loop
-returns c = done (c .before .loop .inv .1) (bits-done (c .before .before .args .word) (c .before .loop .i) (omega arith)) .1
+returns c = done (c .before .loop .inv .1) (bits-done (c .before .before .args .count) (c .before .before .args .word) (c .before .loop .i) (omega arith)) .1
 
-pub lay-row-spec : {M : Type 1} → statement M
-lay-row-spec =
+pub lay-bits-spec : {M : Type 1} → statement M
+lay-bits-spec =
     tie.close
     (tie.spec
     Inv-loop
     μ-loop
     loop-holds
+    add-out
     sub-out
     cast-out
     shr-out
     cast-out-2
-    add-out
+    add-out-2
     slice-write-out
     add-i
     loop-less
