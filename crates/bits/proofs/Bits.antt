@@ -9,8 +9,8 @@ use lib.Dec.{leb, leb→le}
 use lib.ListN.{getD, List·getD-map}
 use borrow.Author.Tests.{leb-true}
 use Rattle.lists.specs.Every.{every}
-pub use Rattle.lists.proofs.Line.{both-true}
 use Rattle.lists.proofs.Every.{every-place}
+use Rattle.lists.proofs.Tests.{both-true}
 use Rattle.bits.specs.Bits.{isOne, byte, allBits}
 
 pub byte-lt : (b : Bool) → byte b < 2

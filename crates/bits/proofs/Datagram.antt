@@ -11,11 +11,13 @@ use lib.Dec.{ltb}
 use lib.ListN.{length, getD, take, drop, replicate, take-append-drop, length-append, length-replicate, length-drop, length-take, List·getD-append, replicate-append-replicate}
 use lib.Seq.{take-at, drop-at, take-append-le, take-take, length-take-le, getD-append-add, getD-take, getD-drop, drop-drop, ext-getD}
 use Rattle.lists.specs.Every.{every}
+use Rattle.lists.proofs.Every.{every-append, every-replicate}
 use Rattle.lists.proofs.Parts.{drop-take, map-take, map-drop}
+use Rattle.lists.proofs.Tests.{both-true}
 use Rattle.bits.specs.Bits.{isOne, byte}
 use Rattle.bits.specs.Row.{highFirst, number}
 use Rattle.bits.specs.Datagram.{allBytes, bitsOf, filled, bytesOf}
-use Rattle.bits.proofs.Bits.{byte-isOne, both-true}
+use Rattle.bits.proofs.Bits.{byte-isOne}
 use Rattle.bits.proofs.Row.{length-highFirst, highFirst-at, number-highFirst, highFirst-number, number-lt}
 use Rattle.bits.proofs.Filled.{length-filled, filled-at, filled-fits, take-filled}
 
@@ -25,13 +27,13 @@ unfolding bitsOf
 length-bitsOf [] = refl
 length-bitsOf (b ∷ datagram) = omega (arith, length-append (highFirst 8 b) (bitsOf datagram), length-highFirst 8 b, length-bitsOf datagram)
 
-pub bitsOf-append : (a b : List ℕ) → bitsOf (a ++ b) ≡ bitsOf a ++ bitsOf b
+bitsOf-append : (a b : List ℕ) → bitsOf (a ++ b) ≡ bitsOf a ++ bitsOf b
 unfolding bitsOf
 bitsOf-append [] b = refl
 bitsOf-append (x ∷ a) b = ap (λ (l : List Bool). highFirst 8 x ++ l) (bitsOf-append a b) ∙ sym (append-assoc (highFirst 8 x) (bitsOf a) (bitsOf b))
 
 -- bit t of byte j
-pub bitsOf-at : (datagram : List ℕ) (j t : ℕ) → t < 8 → getD (bitsOf datagram) (j * 8 + t) false ≡ isOne (getD datagram j 0 / 2 ^ (7 - t) % 2)
+bitsOf-at : (datagram : List ℕ) (j t : ℕ) → t < 8 → getD (bitsOf datagram) (j * 8 + t) false ≡ isOne (getD datagram j 0 / 2 ^ (7 - t) % 2)
 unfolding bitsOf
 bitsOf-at [] j t h = rw zero-div
 bitsOf-at (b ∷ datagram) zero t h =
@@ -78,7 +80,7 @@ zero-bytes (suc n) =
     ∙ ap (λ (k : ℕ). replicate k false) more
 
 -- the bits of a short datagram, filled, are those of the datagram filled with zero bytes
-pub filled-bitsOf : (m : ℕ) (datagram : List ℕ) → length datagram ≤ m → filled (m * 8) (bitsOf datagram) ≡ bitsOf (datagram ++ replicate (m - length datagram) 0)
+filled-bitsOf : (m : ℕ) (datagram : List ℕ) → length datagram ≤ m → filled (m * 8) (bitsOf datagram) ≡ bitsOf (datagram ++ replicate (m - length datagram) 0)
 filled-bitsOf m datagram h =
     let left : m * 8 - length (bitsOf datagram) ≡ (m - length datagram) * 8 = omega (arith, length-bitsOf datagram) in
     filled-fits (m * 8) (bitsOf datagram) (omega (arith, length-bitsOf datagram))
@@ -93,7 +95,7 @@ length-bytesOf zero row = refl
 length-bytesOf (suc m) row = ap suc (length-bytesOf m (drop 8 row))
 
 -- only the first m * 8 bits count
-pub bytesOf-take : (m : ℕ) (row : List Bool) → bytesOf m (take (m * 8) row) ≡ bytesOf m row
+bytesOf-take : (m : ℕ) (row : List Bool) → bytesOf m (take (m * 8) row) ≡ bytesOf m row
 unfolding bytesOf
 bytesOf-take zero row = refl
 bytesOf-take (suc m) row =
@@ -104,7 +106,7 @@ bytesOf-take (suc m) row =
 pub bytesOf-append : (m : ℕ) (row rest : List Bool) → m * 8 ≤ length row → bytesOf m (row ++ rest) ≡ bytesOf m row
 bytesOf-append m row rest h = sym (bytesOf-take m (row ++ rest)) ∙ ap (bytesOf m) (take-append-le (m * 8) row rest h) ∙ bytesOf-take m row
 
-pub bytesOf-filled : (m n : ℕ) (row : List Bool) → m * 8 ≤ n → bytesOf m (filled n row) ≡ bytesOf m (filled (m * 8) row)
+bytesOf-filled : (m n : ℕ) (row : List Bool) → m * 8 ≤ n → bytesOf m (filled n row) ≡ bytesOf m (filled (m * 8) row)
 bytesOf-filled m n row h = sym (bytesOf-take m (filled n row)) ∙ ap (bytesOf m) (take-filled (m * 8) n row h)
 
 -- what they make are bytes
@@ -130,7 +132,7 @@ pub part-bits : (at : ℕ) (row : List ℕ) → map isOne (take (at + 8 - at) (d
 part-bits at row = let eight : at + 8 - at ≡ 8 = omega arith in rw eight (map-take isOne 8 (drop at row))
 
 -- ---- there and back
-pub bytesOf-bitsOf : (datagram : List ℕ) → allBytes datagram ≡ true → bytesOf (length datagram) (bitsOf datagram) ≡ datagram
+bytesOf-bitsOf : (datagram : List ℕ) → allBytes datagram ≡ true → bytesOf (length datagram) (bitsOf datagram) ≡ datagram
 unfolding bitsOf bytesOf every
 bytesOf-bitsOf [] e = refl
 bytesOf-bitsOf (b ∷ datagram) e =
@@ -139,28 +141,9 @@ bytesOf-bitsOf (b ∷ datagram) e =
     let rest = drop-at (highFirst 8 b) (bitsOf datagram) 8 (length-highFirst 8 b) in
     ap₂ _∷_ (ap number first ∙ number-highFirst 8 b (ltb-true b 256 (p .0))) (ap (bytesOf (length datagram)) rest ∙ bytesOf-bitsOf datagram (p .1))
 
+-- eight bits are those of the byte that they make
 pub byte-bits : (row : List Bool) → 8 ≤ length row → highFirst 8 (number (take 8 row)) ≡ take 8 row
 byte-bits row h = rw (length-take-le 8 row h) at (highFirst-number (take 8 row))
-
-pub bitsOf-bytesOf : (m : ℕ) (row : List Bool) → length row ≡ m * 8 → bitsOf (bytesOf m row) ≡ row
-unfolding bitsOf bytesOf
-bitsOf-bytesOf zero [] e = refl
-bitsOf-bytesOf zero (b ∷ row) e = absurd (omega arith)
-bitsOf-bytesOf (suc m) row e =
-    ap₂ _++_ (byte-bits row (omega arith)) (bitsOf-bytesOf m (drop 8 row) (simp length-drop (omega arith))) ∙ take-append-drop 8 row
-
-zeros-bytes : (k : ℕ) → allBytes (replicate k 0) ≡ true
-unfolding every
-zeros-bytes zero = refl
-zeros-bytes (suc k) = zeros-bytes k
-
--- zero bytes behind bytes
-pub fill-bytes : (datagram : List ℕ) (k : ℕ) → allBytes datagram ≡ true → allBytes (datagram ++ replicate k 0) ≡ true
-unfolding every
-fill-bytes [] k e = zeros-bytes k
-fill-bytes (b ∷ datagram) k e =
-    let p = both-true (ltb b 256) (allBytes datagram) e in
-    rw (p .0) (fill-bytes datagram k (p .1))
 
 -- m bytes of the bits of a datagram, of which n were kept, are the datagram filled with zero bytes
 pub datagram-back : (m n : ℕ) (datagram : List ℕ) → allBytes datagram ≡ true → length datagram ≤ m → m * 8 ≤ n
@@ -170,4 +153,4 @@ datagram-back m n datagram e h l =
     let long : length whole ≡ m = simp (length-append, length-replicate) (omega arith) in
     bytesOf-filled m n (bitsOf datagram) l
     ∙ ap (bytesOf m) (filled-bitsOf m datagram h)
-    ∙ rw long at (bytesOf-bitsOf whole (fill-bytes datagram (m - length datagram) e))
+    ∙ rw long at (bytesOf-bitsOf whole (every-append _ datagram (replicate (m - length datagram) 0) e (every-replicate _ (m - length datagram) 0 refl)))

@@ -4,11 +4,10 @@ use mathlib.Core.Path.{_≡_, refl, sym, ap, _∙_}
 use mathlib.Core.Bool.{Bool, false}
 use mathlib.Core.List.{List, [], _∷_, _++_, map, append-assoc}
 use Prim.Native.Nat.{ℕ, zero, suc, _+_, _-_, _≤_, _<_}
-use native.Mathlib.Numerals.{add-one}
 use native.Mathlib.Omega.{arith}
-use lib.ListN.{length, getD, take, drop, replicate, length-append, length-replicate, replicate-append-replicate, drop-of-length-le}
-use lib.Seq.{drop-cons, length-take-le, take-append-le, take-append-add, drop-append-add, take-take, getD-take}
-use Rattle.lists.proofs.Parts.{drop-take, take-replicate, drop-replicate}
+use lib.ListN.{length, getD, take, drop, replicate, length-append, length-replicate, replicate-append-replicate}
+use lib.Seq.{length-take-le, take-append-le, take-append-add, drop-append-add, take-take, getD-take}
+use Rattle.lists.proofs.Parts.{drop-take, take-replicate, drop-replicate, map-more, map-done}
 use Rattle.bits.specs.Bits.{byte}
 use Rattle.bits.specs.Datagram.{filled}
 
@@ -33,11 +32,10 @@ filled-at n row i h = getD-take n (row ++ replicate n false) i false h ∙ behin
 
 -- bit by bit: what is left to lay at i begins with the row's bit i
 pub filled-more : (n i : ℕ) (row : List Bool) → i < n → map byte (drop i (filled n row)) ≡ byte (getD row i false) ∷ map byte (drop (i + 1) (filled n row))
-filled-more n i row h =
-    rw (drop-cons (filled n row) i false (rw length-filled h), add-one, filled-at n row i h)
+filled-more n i row h = rw (← filled-at n row i h) (map-more byte (filled n row) false i (rw length-filled h))
 
 pub filled-done : (n i : ℕ) (row : List Bool) → n ≤ i → map byte (drop i (filled n row)) ≡ []
-filled-done n i row h = rw (drop-of-length-le (filled n row) {i = i} (rw length-filled h))
+filled-done n i row h = map-done byte (filled n row) i (rw length-filled h)
 
 -- ---- parts
 -- a row that is not too long is there whole, and zero bits behind it

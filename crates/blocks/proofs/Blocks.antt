@@ -1,13 +1,14 @@
 -- The block of a datagram is valid, its image is as long as the link's are, and it holds the datagram, zero-filled.
 -- Assumes nothing.
 use mathlib.Core.Path.{_≡_, refl, _∙_}
-use mathlib.Core.Bool.{true, false}
+use mathlib.Core.Bool.{true, false, not}
 use mathlib.Core.List.{List, map}
-use Prim.Native.Nat.{ℕ, zero, suc, _-_, _*_, _≤_}
+use Prim.Native.Nat.{ℕ, _-_, _*_, _≤_}
 use native.Mathlib.Omega.{arith}
 use lib.Dec.{T}
-use lib.ListN.{length, replicate, length-append, length-map}
+use lib.ListN.{length, length-append, length-map}
 use lib.Seq.{take-at}
+use Rattle.lists.proofs.Every.{every-replicate}
 use Rattle.bits.specs.Bits.{byte}
 use Rattle.bits.specs.Datagram.{bitsOf, allBytes}
 use Rattle.bits.proofs.Datagram.{length-bitsOf, bytesOf-append, datagram-back}
@@ -24,11 +25,6 @@ use Rattle.links.proofs.Facts.{sizes}
 use Rattle.blocks.specs.Block.{opening, blockOf, imageOf, datagramOf, zeroFilled}
 use Rattle.blocks.specs.Coding.{codingOf}
 use Rattle.blocks.proofs.Sound.{length-image}
-
-zeros : (n : ℕ) → allZero (replicate n false) ≡ true
-unfolding allZero
-zeros zero = refl
-zeros (suc n) = zeros n
 
 module _ (row : Row) (good : T (goodRow row)) (datagram : List ℕ) (fits : length datagram ≤ bytesHeld row) where
   length-opening : length (opening row datagram) ≡ row .k - 32
@@ -50,13 +46,13 @@ module _ (row : Row) (good : T (goodRow row)) (datagram : List ℕ) (fits : leng
 
   -- the bits over are zero
   over-zero : allZero (bitsOver (codingOf row) (blockOf row datagram)) ≡ true
-  unfolding codingOf blockOf
+  unfolding codingOf blockOf allZero
   over-zero =
       rw (
         take-at (opening row datagram) (checkBits (opening row datagram)) (row .k - 32) length-opening,
         drop-filled (bytesHeld row * 8) (openBits row) (bitsOf datagram) (omega (arith, length-bitsOf datagram)),
       )
-      (zeros (openBits row - bytesHeld row * 8))
+      (every-replicate not (openBits row - bytesHeld row * 8) false refl)
 
   -- the check closes it
   pub block-valid : valid (codingOf row) (blockOf row datagram) ≡ true

@@ -10,9 +10,9 @@ use borrow.Author.Tests.{leb-true, le-leb}
 use lib.Dec.{leb}
 use lib.ListN.{length, getD, set, length-map}
 use Rattle.lists.specs.Every.{every}
+use Rattle.lists.proofs.Tests.{both-true}
 use Rattle.bits.specs.Bits.{isOne, allBits}
 use Rattle.bits.specs.Row.{flip}
-use Rattle.bits.proofs.Bits.{both-true}
 use Rattle.check32.specs.Check.{register}
 use Rattle.check32.specs.Residue.{bitsAfter}
 use Rattle.distance.specs.Reading.{wrongAfter, wrongPlace}

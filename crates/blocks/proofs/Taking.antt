@@ -13,7 +13,7 @@ use lib.Seq.{drop-cons}
 use Rattle.lists.specs.Over.{Laying}
 use Rattle.lists.proofs.Over.{start, fits, more, done, over-all}
 use Rattle.bits.specs.Bits.{isOne, byte, allBits}
-use Rattle.bits.proofs.Bits.{byte-isOne, bit-low}
+use Rattle.bits.proofs.Bits.{byte-at}
 use Rattle.distance.specs.Coding.{xBits}
 use Rattle.distance.proofs.Weave.{xBits-next}
 use Rattle.links.specs.declared.Row.{Row}
@@ -33,13 +33,6 @@ total-more flags i h = rw (drop-cons flags i 0 h, add-one)
 pub total-done : (flags : List ℕ) (i : ℕ) → length flags ≤ i → total (drop i flags) ≡ 0
 unfolding total
 total-done flags i h = rw (drop-of-length-le flags {i = i} h)
-
--- ---- and of the clocks of a pattern, clock by clock
-pub totals-more : (pattern : List (List ℕ)) (c : ℕ) → c < length pattern → map total (drop c pattern) ≡ total (getD pattern c []) ∷ map total (drop (c + 1) pattern)
-totals-more pattern c h = rw (drop-cons pattern c [] h, add-one)
-
-pub totals-done : (pattern : List (List ℕ)) (c : ℕ) → length pattern ≤ c → map total (drop c pattern) ≡ []
-totals-done pattern c h = rw (drop-of-length-le pattern {i = c} h)
 
 -- what stands at a clock's place in the array that the code makes of a pattern
 sums-at : (pattern : List (List ℕ)) (sums : List ℕ) (clock s : ℕ) → clock < length pattern → sums ≡ map total (padded 10 pattern) → clock ≡ s % length pattern
@@ -115,7 +108,7 @@ module _ (row : Row) (good : T (goodRow row)) (coded old : List ℕ) (long : len
       let skip = total (drop 1 (flagsAt pattern s)) in
       let here : at < length (map isOne coded) = omega (arith, inside at s h e, one s, length-map coded isOne) in
       let next : at + 1 + skip ≡ at + total (flagsAt pattern s) = omega (arith, one s) in
-      let bit : byte (getD (map isOne coded) at false) ≡ getD coded at 0 = ap byte (List·getD-map isOne coded at 0) ∙ byte-isOne (getD coded at 0) (bit-low coded bits at) in
+      let bit : byte (getD (map isOne coded) at false) ≡ getD coded at 0 = byte-at coded bits at in
       rw (counts-more s h, xBits-next skip at (countsFrom pattern (s + 1) (length old - (s + 1))) (map isOne coded) here, next, bit)
 
   pub taking-start : Taking pattern coded old old 0 0 0

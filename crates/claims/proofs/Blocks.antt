@@ -2,9 +2,9 @@
 -- Assumes nothing.
 use mathlib.Core.Path.{_≡_, refl, sym, ap, _∙_}
 use mathlib.Core.Logic.{_↔_}
-use mathlib.Core.Bool.{Bool, true, false, true≢false}
-use mathlib.Core.List.{List, [], _∷_, map}
-use Prim.Native.Nat.{ℕ, zero, suc, _+_, _<_, _≤_}
+use mathlib.Core.Bool.{Bool, true, false, not, true≢false}
+use mathlib.Core.List.{List, map}
+use Prim.Native.Nat.{ℕ, zero, _+_, _<_, _≤_}
 use native.Mathlib.Omega.{arith}
 use lib.Dec.{T}
 use lib.ListN.{length, getD, take, drop, length-map}
@@ -12,6 +12,7 @@ use lib.Seq.{getD-take, getD-drop}
 use Rattle.answers.specs.declared.Written.{Written}
 use Rattle.answers.specs.Numbers.{done, wrongLength, notOffered, noRoom, noBit, noBlock}
 use Rattle.answers.proofs.Wrote.{told}
+use Rattle.lists.proofs.Every.{every-place}
 use Rattle.bits.specs.Bits.{isOne, byte}
 use Rattle.bits.specs.Row.{differences, flip}
 use Rattle.bits.specs.Datagram.{allBytes}
@@ -162,10 +163,11 @@ module _ (link : ℕ) (datagram old new : List ℕ) (answer : Written) (bytes : 
 -- ---- link 12's bits over
 zero-at : (row : List Bool) (i : ℕ) → allZero row ≡ true → getD row i false ≡ false
 unfolding allZero
-zero-at [] i e = refl
-zero-at (true ∷ row) i e = absurd (true≢false (sym e))
-zero-at (false ∷ row) zero e = refl
-zero-at (false ∷ row) (suc i) e = zero-at row i e
+zero-at row i e = zero (getD row i false) (every-place not false row (rw e tt) tt i)
+  where
+    zero : (b : Bool) → T (not b) → b ≡ false
+    zero true t = absurd t
+    zero false t = refl
 
 pub over-12 : (u : List Bool) → Valid (rowOf 12) u → (i : ℕ) → i < 4 → getD u (936 + i) false ≡ false
 unfolding codingOf rows placeIn rowOf

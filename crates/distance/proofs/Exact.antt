@@ -2,17 +2,16 @@
 -- Assumes nothing.
 use mathlib.Core.Path.{_≡_, refl, sym, _∙_}
 use mathlib.Core.Logic.{_↔_}
-use mathlib.Core.Bool.{Bool, true, false}
+use mathlib.Core.Bool.{Bool, true}
 use mathlib.Core.List.{List}
 use mathlib.Core.Option.{Option, none, some, Option·none-ne-some}
 use Prim.Native.Nat.{_≤_}
 use native.Mathlib.Nat.{le-trans}
 use native.Mathlib.Omega.{arith}
-use lib.Dec.{ltb}
 use lib.ListN.{length}
-use borrow.Author.Tests.{leb-true, le-leb, ltb-true, ltb-false}
+use borrow.Author.Tests.{leb-true, le-leb}
 use Rattle.bits.specs.Row.{differences}
-use Rattle.bits.proofs.Bits.{both-true}
+use Rattle.lists.proofs.Tests.{both-true}
 use Rattle.bits.proofs.Differences.{differences-comm, differences-triangle}
 use Rattle.distance.specs.Coding.{Coding, Sound, image, received}
 use Rattle.distance.specs.Valid.{valid, Near}
@@ -31,11 +30,7 @@ module _ (c : Coding) (sound : Sound c) where
 
   -- two different valid blocks differ in at least three places
   pub blocks-apart : (a b : List Bool) → valid c a ≡ true → valid c b ≡ true → (a ≡ b → ⊥) → 3 ≤ differences a b
-  blocks-apart a b v w ne = decided (ltb (differences a b) 3) refl
-    where
-      decided : (t : Bool) → ltb (differences a b) 3 ≡ t → 3 ≤ differences a b
-      decided true e = absurd (ne (same-block a b v w (omega (arith, ltb-true (differences a b) 3 e))))
-      decided false e = ltb-false (differences a b) 3 e
+  blocks-apart a b v w ne = let far : differences a b ≤ 2 → ⊥ = λ h. ne (same-block a b v w h) in omega (arith, far)
 
   -- and so do their images
   pub images-apart : (a b : List Bool) → valid c a ≡ true → valid c b ≡ true → (a ≡ b → ⊥) → 3 ≤ differences (image c a) (image c b)

@@ -8,7 +8,7 @@ use native.Mathlib.Omega.{arith}
 use lib.ListN.{length}
 use borrow.Author.Tests.{leb-true, le-leb}
 use Rattle.bits.specs.Row.{differences}
-use Rattle.bits.proofs.Bits.{both-true}
+use Rattle.lists.proofs.Tests.{both-true}
 use Rattle.distance.specs.Coding.{Coding, Sound, image, received}
 use Rattle.distance.specs.Valid.{allZero, bitsOver, Near}
 use Rattle.distance.specs.Reading.{isNear, readByTrying, candidate, accepted, readByCandidate}

@@ -7,7 +7,7 @@ use native.Mathlib.Nat.{add-zero, suc-add, add-suc}
 use native.Mathlib.Numerals.{add-one}
 use native.Mathlib.Omega.{arith}
 use lib.Dec.{T, T-not, eqb, eqb-refl}
-use Rattle.lists.proofs.Line.{both-left, both-right}
+use Rattle.lists.proofs.Tests.{both-left, both-right}
 use Rattle.check32.specs.Check.{x32}
 use Rattle.check32.specs.Residue.{residue}
 use Rattle.check32.proofs.Fast.{fastStep, fastStep-is}

@@ -1,7 +1,7 @@
 -- What trying every place finds: only what passes the test, and that where one alone passes.
 -- Assumes nothing.
 use mathlib.Core.Path.{_≡_, refl, sym, ap, _∙_}
-use mathlib.Core.Logic.{_⊎_, inl, inr, ⊎-elim}
+use mathlib.Core.Logic.{_⊎_, ⊎-elim}
 use mathlib.Core.Bool.{Bool, true, false, cond, true≢false}
 use mathlib.Core.List.{List}
 use mathlib.Core.Option.{Option, some, Option·none-ne-some}
@@ -9,25 +9,25 @@ use Prim.Native.Nat.{ℕ, zero, suc, _+_, _<_, _≤_, zero-le}
 use native.Mathlib.Nat.{eq-or-lt-of-le}
 use native.Mathlib.Omega.{arith}
 use lib.ListN.{length}
+use Rattle.lists.proofs.Tests.{either}
 use Rattle.bits.specs.Row.{differences, flip}
 use Rattle.bits.proofs.Flip.{OneOff, same, flipped, one-off}
 use Rattle.distance.specs.Reading.{firstFlip, tryEach}
 
-either : (b : Bool) (x a : List Bool) (o : Option (List Bool)) → cond b (some x) o ≡ some a → ((b ≡ true) × (x ≡ a)) ⊎ (o ≡ some a)
-either true x a o e = inl (refl, cc)
-either false x a o e = inr e
-
 module _ (test : List Bool → Bool) (row a : List Bool) where
   -- ---- what is found passes
+  is-passed : (x : List Bool) → test x ≡ true → some x ≡ some a → test a ≡ true
+  is-passed x t e = let same : x ≡ a = cc in rw same at t
+
   flip-passes : (i left : ℕ) → firstFlip test row i left ≡ some a → test a ≡ true
   unfolding firstFlip
   flip-passes i zero e = absurd (Option·none-ne-some a e)
   flip-passes i (suc left) e =
-      ⊎-elim (λ w. rw (w .1) at (w .0)) (λ w. flip-passes (i + 1) left w) (either (test (flip i row)) (flip i row) a (firstFlip test row (i + 1) left) e)
+      ⊎-elim (λ w. is-passed (flip i row) (w .0) (w .1)) (λ w. flip-passes (i + 1) left (w .1)) (either (test (flip i row)) e)
 
   pub tried-passes : tryEach test row ≡ some a → test a ≡ true
   unfolding tryEach
-  tried-passes e = ⊎-elim (λ w. rw (w .1) at (w .0)) (λ w. flip-passes 0 (length row) w) (either (test row) row a (firstFlip test row 0 (length row)) e)
+  tried-passes e = ⊎-elim (λ w. is-passed row (w .0) (w .1)) (λ w. flip-passes 0 (length row) (w .1)) (either (test row) e)
 
   -- ---- what alone passes, and differs from the row in at most one place, is found
   module _ (passes : test a ≡ true) (alone : (b : List Bool) → test b ≡ true → b ≡ a) where

@@ -6,7 +6,7 @@ use mathlib.Core.List.{List}
 use lib.Dec.{eqb}
 use lib.ListN.{length}
 use borrow.Author.Tests.{eqb-true, eq-eqb}
-use Rattle.bits.proofs.Bits.{both-true}
+use Rattle.lists.proofs.Tests.{both-true}
 use Rattle.check32.specs.Check.{register, Closes}
 use Rattle.distance.specs.Coding.{Coding}
 use Rattle.distance.specs.Valid.{allZero, bitsOver, valid}

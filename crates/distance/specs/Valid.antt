@@ -1,17 +1,17 @@
 -- A valid block of a link (document 01, "From datagram to block"), and what demand 3 says of one.
 use mathlib.Core.Path.{_≡_}
 use mathlib.Core.Bool.{Bool, true, not, _&&_}
-use mathlib.Core.List.{List, [], _∷_}
+use mathlib.Core.List.{List}
 use Prim.Native.Nat.{_-_, _≤_}
 use lib.Dec.{eqb}
 use lib.ListN.{length, take, drop}
+use Rattle.lists.specs.Every.{every}
 use Rattle.bits.specs.Row.{differences}
 use Rattle.check32.specs.Check.{register}
 use Rattle.distance.specs.Coding.{Coding, image}
 
 unfoldable pub allZero : List Bool → Bool
-allZero [] = true
-allZero (b ∷ row) = not b && allZero row
+allZero row = every not row
 
 -- the bits over, which stand before the check: four on link 12
 abbrev pub bitsOver : Coding → List Bool → List Bool

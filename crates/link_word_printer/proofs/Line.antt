@@ -2,15 +2,15 @@
 -- Assumes nothing.
 use mathlib.Core.Path.{_≡_, refl, ap}
 use mathlib.Core.Bool.{Bool, true, false, cond}
-use mathlib.Core.List.{List, [], _∷_, map}
+use mathlib.Core.List.{List, [], _∷_}
 use Prim.Native.Nat.{ℕ, _+_, _<_, _≤_}
 use native.Mathlib.Numerals.{add-one}
 use native.Mathlib.Omega.{arith}
 use lib.Dec.{eqb}
-use lib.ListN.{length, getD, take, drop, drop-of-length-le}
+use lib.ListN.{length, getD, take, drop, length-take, drop-of-length-le}
 use lib.Seq.{drop-cons}
 use borrow.Author.Tests.{eq-eqb, ne-eqb}
-use Rattle.link_word_printer.specs.Line.{lineOf, bitOf}
+use Rattle.link_word_printer.specs.Line.{lineOf}
 
 pub line-ends : (input : List ℕ) (i : ℕ) → i < length input → getD input i 0 ≡ 10 → lineOf (drop i input) ≡ []
 unfolding lineOf
@@ -35,17 +35,4 @@ line-front (c ∷ input) = picked (eqb c 10) (line-front input)
     picked false e = ap (λ (l : List ℕ). c ∷ l) e
 
 pub line-within : (input : List ℕ) → length (lineOf input) ≤ length input
-unfolding lineOf
-line-within [] = omega arith
-line-within (c ∷ input) = picked (eqb c 10) (line-within input)
-  where
-    picked : (b : Bool) → length (lineOf input) ≤ length input → length (cond b [] (c ∷ lineOf input)) ≤ length (c ∷ input)
-    picked true h = omega arith
-    picked false h = omega arith
-
--- ---- the bits that its characters stand for
-pub bits-more : (line : List ℕ) (i : ℕ) → i < length line → map bitOf (drop i line) ≡ bitOf (getD line i 0) ∷ map bitOf (drop (i + 1) line)
-bits-more line i h = rw (drop-cons line i 0 h, add-one)
-
-pub bits-none : (line : List ℕ) (i : ℕ) → length line ≤ i → map bitOf (drop i line) ≡ []
-bits-none line i h = rw (drop-of-length-le line h)
+line-within input = omega (arith, ap length (line-front input), length-take (length (lineOf input)) input)

@@ -37,21 +37,15 @@ pub offered-place : (link : ℕ) → offered link ≡ true → place link < leng
 unfolding offered
 offered-place link e = ltb-true (place link) (length rows) e
 
-pub place-offered : (link : ℕ) → place link < length rows → offered link ≡ true
-unfolding offered
-place-offered link h = lt-ltb (place link) (length rows) h
-
-pub place-unoffered : (link : ℕ) → length rows ≤ place link → offered link ≡ false
-unfolding offered
-place-unoffered link h = le-ltb (place link) (length rows) h
-
 -- ---- what a caller learns from the place that was found
 module _ (link : ℕ) {at : ℕ} (found : at ≡ place link) where
   pub found-offered : at < 22 → offered link ≡ true
-  found-offered h = place-offered link (omega (arith, found, row-count))
+  unfolding offered
+  found-offered h = lt-ltb (place link) (length rows) (omega (arith, found, row-count))
 
   pub found-none : 22 ≤ at → offered link ≡ false
-  found-none h = place-unoffered link (omega (arith, found, row-count))
+  unfolding offered
+  found-none h = le-ltb (place link) (length rows) (omega (arith, found, row-count))
 
   pub found-row : getD rows at noRow ≡ rowOf link
   unfolding rowOf

@@ -1,16 +1,17 @@
--- What a test of every element says of the element at a place, of a part of the list, and of what a loop that scans has left to test.
+-- What a test of every element says of the element at a place, of a part of the list, and of what a loop that scans has left to test;
+-- and of lists put together.
 -- Assumes nothing.
 use mathlib.Core.Path.{_≡_, refl, _∙_}
 use mathlib.Core.Bool.{Bool, true, false, _&&_, true≢false}
-use mathlib.Core.List.{List, [], _∷_}
+use mathlib.Core.List.{List, [], _∷_, _++_}
 use Prim.Native.Nat.{ℕ, zero, suc, _+_, _<_, _≤_, zero-le, suc-le-suc}
 use native.Mathlib.Nat.{le-of-suc-le-suc, not-suc-le-zero}
 use native.Mathlib.Numerals.{add-one}
 use lib.Dec.{T}
-use lib.ListN.{length, getD, take, drop, drop-of-length-le}
+use lib.ListN.{length, getD, take, drop, replicate, drop-of-length-le}
 use lib.Seq.{drop-cons}
 use Rattle.lists.specs.Every.{every, together}
-use Rattle.lists.proofs.Line.{both-left, both-right, both-true}
+use Rattle.lists.proofs.Tests.{both-left, both-right, both-true}
 
 module _ {A : Type 0} (test : A → Bool) (none : A) where
   -- at a place inside the list
@@ -79,6 +80,17 @@ module _ {A : Type 0} (test : A → Bool) where
   every-drop zero xs e = e
   every-drop (suc n) [] e = refl
   every-drop (suc n) (x ∷ xs) e = every-drop n xs (both-true (test x) (every test xs) e .1)
+
+  -- ---- a list of equal elements, and two lists in a row
+  pub every-replicate : (n : ℕ) (x : A) → test x ≡ true → every test (replicate n x) ≡ true
+  unfolding every
+  every-replicate zero x e = refl
+  every-replicate (suc n) x e = rw e (every-replicate n x e)
+
+  pub every-append : (xs ys : List A) → every test xs ≡ true → every test ys ≡ true → every test (xs ++ ys) ≡ true
+  unfolding every
+  every-append [] ys e f = f
+  every-append (x ∷ xs) ys e f = let h = both-true (test x) (every test xs) e in rw (h .0) (every-append xs ys (h .1) f)
 
 -- one of some tests that hold together
 pub together-at : (tests : List Bool) → T (together tests) → (i : ℕ) → T (getD tests i true)

@@ -2,10 +2,11 @@
 -- Assumes nothing.
 use mathlib.Core.Path.{_≡_, refl, ap}
 use mathlib.Core.List.{List, [], _∷_, map}
-use Prim.Native.Nat.{ℕ, zero, suc, _-_, _≤_}
+use Prim.Native.Nat.{ℕ, zero, suc, _+_, _-_, _<_, _≤_}
 use native.Mathlib.Nat.{sub-zero, zero-sub, suc-sub-suc, le-of-suc-le-suc, not-suc-le-zero, le-of-eq}
-use lib.ListN.{length, take, drop, replicate, length-drop}
-use lib.Seq.{take-all, take-nil}
+use native.Mathlib.Numerals.{add-one}
+use lib.ListN.{length, getD, take, drop, replicate, length-drop, drop-of-length-le}
+use lib.Seq.{take-all, take-nil, drop-cons}
 
 module _ {A : Type 0} where
   pub drop-take : (m n : ℕ) (l : List A) → drop m (take n l) ≡ take (n - m) (drop m l)
@@ -34,6 +35,13 @@ module _ {A B : Type 0} (f : A → B) where
   map-drop zero l = refl
   map-drop (suc n) [] = refl
   map-drop (suc n) (x ∷ l) = map-drop n l
+
+  -- a loop that maps: what is left at i begins with what the element at i becomes, and at the end nothing is left
+  pub map-more : (l : List A) (none : A) (i : ℕ) → i < length l → map f (drop i l) ≡ f (getD l i none) ∷ map f (drop (i + 1) l)
+  map-more l none i h = rw (drop-cons l i none h, add-one)
+
+  pub map-done : (l : List A) (i : ℕ) → length l ≤ i → map f (drop i l) ≡ []
+  map-done l i h = rw (drop-of-length-le l h)
 
 -- the part that code lends from some place on, with its count of what is left, is all that is left
 pub part-rest : (p : ℕ) (s : List ℕ) → take (length s - p) (drop p s) ≡ drop p s

@@ -1,13 +1,10 @@
 -- How the reader shows its contract: the head was refused, or the rest was read as a block.
 -- Assumes nothing.
-use mathlib.Core.Path.{_≡_, refl, sym, ap, _∙_}
-use mathlib.Core.Bool.{Bool, true, false}
+use mathlib.Core.Path.{_≡_, sym, ap, _∙_}
 use mathlib.Core.List.{List}
-use Prim.Native.Nat.{ℕ, _≤_}
+use Prim.Native.Nat.{ℕ, _<_, _≤_}
 use native.Mathlib.Omega.{arith}
-use lib.Dec.{ltb}
 use lib.ListN.{length, drop}
-use borrow.Author.Tests.{ltb-true, ltb-false}
 use Rattle.answers.specs.Numbers.{done}
 use Rattle.answers.specs.Outcome.{Wrote}
 use Rattle.blocks.specs.declared.Block.{Block}
@@ -20,15 +17,13 @@ use Rattle.slots.proofs.Calls.{head-short, read-refused, read-joined}
 
 -- a head that is read is all there
 pub head-long : (burst : List ℕ) {head : Word} → head ≡ readHead burst → head .status ≡ done → headLength ≤ length burst
-head-long burst {head} e z = decided (ltb (length burst) headLength) refl
-  where
-    decided : (short : Bool) → ltb (length burst) headLength ≡ short → headLength ≤ length burst
-    decided true s = absurd (omega (arith, z, ap (λ (w : Word). w .status) (e ∙ head-short burst (ltb-true (length burst) headLength s))))
-    decided false s = ltb-false (length burst) headLength s
+head-long burst {head} e z =
+    let all : length burst < headLength → ⊥ = λ short. absurd (omega (arith, z, ap (λ (w : Word). w .status) (e ∙ head-short burst short))) in
+    omega (arith, all)
 
 module _ (burst old : List ℕ) {head : Word} (e : head ≡ readHead burst) where
   pub head-refused : (head .status ≡ done → ⊥) → readSlot burst (length old) ≡ refused (head .status)
-  head-refused h = rw (e) (read-refused burst (length old) (rw e at h))
+  head-refused h = rw e (read-refused burst (length old) (rw e at h))
 
   pub joins : head .status ≡ done → (rest : List ℕ) → rest ≡ drop headLength burst → (new : List ℕ) {block : Block}
       → Wrote (readBlock (head .number) rest (length old)) old new block → {answer : Slot} → answer ≡ both head block → Wrote (readSlot burst (length old)) old new answer

@@ -16,7 +16,7 @@ use Rattle.bits.specs.Bits.{byte}
 use Rattle.bits.specs.Row.{highFirst}
 use Rattle.slots.specs.Burst.{doubled, symbols, training}
 
-pub symbol-count : length symbols ≡ 27
+symbol-count : length symbols ≡ 27
 unfolding symbols highFirst
 symbol-count = refl
 

@@ -1,13 +1,15 @@
 -- Different words differ in at least 16 places, so at most one is within seven of what came.
 -- Assumes nothing.
-use mathlib.Core.Path.{_≡_, refl, sym, ap, _∙_, subst}
-use mathlib.Core.Bool.{Bool, true, false, _||_}
+use mathlib.Core.Path.{_≡_, sym, ap, _∙_, subst}
+use mathlib.Core.Logic.{by-cases}
+use mathlib.Core.Bool.{Bool, _||_}
 use mathlib.Core.List.{List}
 use Prim.Native.Nat.{ℕ, _^_, _≤_, _<_}
+use native.Mathlib.Decide.{ℕ-discrete}
 use native.Mathlib.Omega.{arith}
 use lib.Dec.{T, leb, ltb, eqb, leb→le, ltb→lt}
 use lib.ListN.{length}
-use borrow.Author.Tests.{ne-eqb, eqb-true, eqb-false}
+use borrow.Author.Tests.{ne-eqb}
 use Rattle.lists.proofs.Line.{upto, line, square}
 use Rattle.bits.specs.Row.{highFirst, number, differences}
 use Rattle.bits.proofs.Row.{length-highFirst, number-highFirst}
@@ -47,9 +49,6 @@ apart m n hm hn ne =
 
 -- no row is within seven of two different words
 pub only-one : (row : List Bool) (m n : ℕ) → m < 64 → n < 64 → differences (wordBits m) row ≤ 7 → differences (wordBits n) row ≤ 7 → m ≡ n
-only-one row m n hm hn near-m near-n = decided (eqb m n) refl
-  where
-    decided : (b : Bool) → eqb m n ≡ b → m ≡ n
-    decided true e = eqb-true m n e
-    decided false e =
-        absurd (omega (arith, apart m n hm hn (eqb-false m n e), differences-triangle (wordBits m) row (wordBits n), differences-comm row (wordBits n)))
+only-one row m n hm hn near-m near-n =
+    by-cases (ℕ-discrete m n) (λ e. e)
+    (λ ne. absurd (omega (arith, apart m n hm hn ne, differences-triangle (wordBits m) row (wordBits n), differences-comm row (wordBits n))))

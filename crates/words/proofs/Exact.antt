@@ -1,15 +1,17 @@
 -- Reading a link word is exact: a row is answered if and only if one of the 64 words is within seven, and with that one.
 -- Assumes nothing.
 use mathlib.Core.Path.{_≡_, refl, sym, ap, _∙_, subst}
-use mathlib.Core.Logic.{_⊎_, inl, inr, ⊎-elim}
-use mathlib.Core.Bool.{Bool, true, false, cond}
+use mathlib.Core.Logic.{_⊎_, ⊎-elim}
+use mathlib.Core.Bool.{Bool}
 use mathlib.Core.List.{List, map}
 use Prim.Native.Nat.{ℕ, zero, suc, _+_, _-_, _≤_, _<_}
+use native.Mathlib.Nat.{lt-of-not-le}
 use native.Mathlib.Omega.{arith}
 use lib.Dec.{leb}
 use lib.ListN.{length, length-map}
-use borrow.Author.Tests.{leb-true, leb-false, lt-leb}
+use borrow.Author.Tests.{leb-true, lt-leb}
 use Rattle.answers.specs.Numbers.{noWord}
+use Rattle.lists.proofs.Tests.{either}
 use Rattle.bits.specs.Bits.{byte}
 use Rattle.bits.specs.Row.{number, differences}
 use Rattle.bits.proofs.Bits.{bits-bytes, all-bytes}
@@ -27,11 +29,6 @@ searched : (row : List Bool) → length row ≡ 32 → readWord (map byte row) �
 searched row l =
     read-near (map byte row) (simp length-map l) (all-bytes row) ∙ ap (λ (r : List Bool). firstNear (number r) 0 64) (bits-bytes row)
 
--- what a test picks is one or the other
-either : (b : Bool) (x y z : Word) → cond b x y ≡ z → ((b ≡ true) × (x ≡ z)) ⊎ ((b ≡ false) × (y ≡ z))
-either true x y z e = inl (refl, e)
-either false x y z e = inr (refl, e)
-
 module _ (row : List Bool) (size : length row ≡ 32) where
   -- ---- what is near is found, since the search passes over every number before it
   here : (n wrong : ℕ) → Near row n wrong → firstNear (number row) n (64 - n) ≡ found n wrong
@@ -40,13 +37,10 @@ module _ (row : List Bool) (size : length row ≡ 32) where
       near-here (number row) n (near .known) (rw count (near .within)) ∙ ap (found n) count
 
   far : (m n wrong : ℕ) → m < n → Near row n wrong → 7 < distance (wordOf m) (number row)
-  far m n wrong h near = rw (distance-is m row (omega (arith, near .known)) size) (decided (leb (differences (wordBits m) row) 7) refl)
-    where
-      decided : (b : Bool) → leb (differences (wordBits m) row) 7 ≡ b → 7 < differences (wordBits m) row
-      decided false e = leb-false (differences (wordBits m) row) 7 e
-      decided true e =
-          let same = only-one row m n (omega (arith, near .known)) (near .known) (leb-true (differences (wordBits m) row) 7 e) (omega (arith, near .count, near .within)) in
-          absurd (omega (arith, same))
+  far m n wrong h near =
+      let known : m < 64 = omega (arith, near .known) in
+      rw (distance-is m row known size)
+      (lt-of-not-le (λ close. absurd (omega (arith, only-one row m n known (near .known) close (omega (arith, near .count, near .within))))))
 
   finds : (k m n wrong : ℕ) → m + k ≡ n → Near row n wrong → firstNear (number row) m (64 - m) ≡ found n wrong
   finds zero m n wrong e near =
@@ -73,21 +67,17 @@ module _ (row : List Bool) (size : length row ≡ 32) where
       ⊎-elim
       (λ t. near-at m n wrong (omega arith) (leb-true d 7 (t .0)) (t .1))
       (λ t. is-near left (m + 1) n wrong (omega arith) (t .1))
-      (either (leb d 7) (found m d) (firstNear (number row) (m + 1) left) (found n wrong) f)
+      (either (leb d 7) f)
 
   pub found-near : (n wrong : ℕ) → readWord (map byte row) ≡ found n wrong → Near row n wrong
   found-near n wrong f = is-near 64 0 n wrong refl (sym (searched row size) ∙ f)
 
   -- ---- refusal 6 is given exactly where no word is near
   pub refused-far : readWord (map byte row) ≡ refused noWord → (n : ℕ) → n < 64 → 7 < differences (wordBits n) row
-  refused-far f n h = decided (leb (differences (wordBits n) row) 7) refl
-    where
-      decided : (b : Bool) → leb (differences (wordBits n) row) 7 ≡ b → 7 < differences (wordBits n) row
-      decided false e = leb-false (differences (wordBits n) row) 7 e
-      decided true e =
-          let wrong = differences (wordBits n) row in
-          let answered = near-found n wrong (record { known = h; count = refl; within = leb-true wrong 7 e }) in
-          absurd (omega (arith, ap (λ (w : Word). w .status) (sym f ∙ answered)))
+  refused-far f n h =
+      lt-of-not-le
+      (λ close. let answered = near-found n (differences (wordBits n) row) (record { known = h; count = refl; within = close }) in
+      absurd (omega (arith, ap (λ (w : Word). w .status) (sym f ∙ answered))))
 
   none-near : ((n : ℕ) → n < 64 → 7 < differences (wordBits n) row) → (left m : ℕ) → m + left ≡ 64 → firstNear (number row) m left ≡ refused noWord
   unfolding firstNear

@@ -3,8 +3,8 @@ use mathlib.Core.Path.{_≡_, refl, sym, _∙_}
 use Prim.Native.Nat.{_≤_, _-_}
 use lib.ListN.{length, drop}
 use borrow.Author.Needs.{needs}
-use borrow.Author.Tests.{not-true, not-false}
 use Rattle.lists.proofs.Every.{every-stops, every-passes, every-done}
+use Rattle.lists.proofs.Tests.{holds, fails}
 use Rattle.messages.specs.Fill.{isFill, onlyFill}
 use Rattle.messages.proofs.only_fill.Statement.{statement}
 use Rattle.messages.proofs.only_fill.Tie as tie
@@ -27,7 +27,7 @@ is-fill-requires c κs = search needs
 returns : tie.Need-returns Inv-loop μ-loop
 returns c =
     let at = c .before .before .before .before .loop in
-    sym (at .inv .2 ∙ every-stops isFill 0 _ (at .i) (search needs) (sym (c .before .is-fill .ensures) ∙ not-true (c .before .is-fill .result) (c .if1 .taken)))
+    sym (at .inv .2 ∙ every-stops isFill 0 _ (at .i) (search needs) (fails (c .before .is-fill .ensures) (c .if1 .taken)))
 
 add-i : tie.Need-add-i Inv-loop μ-loop
 add-i c = search needs
@@ -38,7 +38,7 @@ loop-less c = search needs
 loop-again : tie.Need-loop-again Inv-loop μ-loop
 loop-again c =
     let at = c .before .before .before .before .loop in
-    (search needs, search needs, at .inv .2 ∙ every-passes isFill 0 _ (at .i) (search needs) (sym (c .before .is-fill .ensures) ∙ not-false (c .before .is-fill .result) (c .if1 .left)))
+    (search needs, search needs, at .inv .2 ∙ every-passes isFill 0 _ (at .i) (search needs) (holds (c .before .is-fill .ensures) (c .if1 .left)))
 
 returns-2 : tie.Need-returns-2 Inv-loop μ-loop
 returns-2 c = sym (c .before .loop .inv .2 ∙ every-done _ _ (c .before .loop .i) (search needs))

@@ -1,13 +1,13 @@
 -- All three refusals come before the first byte is laid; then the head, and the block in the part behind it. Assumes nothing.
-use mathlib.Core.Path.{_≡_, sym, ap, _∙_}
+use mathlib.Core.Path.{_≡_, ap, _∙_}
 use mathlib.Core.Bool.{true}
 use Prim.Native.Nat.{_<_, _≤_}
 use native.Mathlib.Omega.{arith}
 use lib.ListN.{length}
 use borrow.Author.Needs.{needs}
-use borrow.Author.Tests.{not-true, not-false}
 use Rattle.answers.proofs.Task.{write-unoffered, write-long, write-short}
 use Rattle.answers.proofs.Wrote.{refuses}
+use Rattle.lists.proofs.Tests.{holds, fails}
 use Rattle.links.specs.Rows.{rowOf}
 use Rattle.links.specs.Sizes.{bytesHeld, imageLength}
 use Rattle.links.proofs.Facts.{sizes}
@@ -25,7 +25,7 @@ abbrev start : tie.Else1 → tie.Start
 start c = c .before .before .before .before
 
 slot : (c : tie.Else1) → isSlotLink (start c .args .link) ≡ true
-slot c = sym (c .before .is-slot-link .ensures) ∙ not-false (c .before .is-slot-link .result) (c .if1 .left)
+slot c = holds (c .before .is-slot-link .ensures) (c .if1 .left)
 
 inside : (c : tie.After-place-of) → c .place-of .result < 22
 inside c = omega (arith, c .place-of .ensures, offered-place _ (slot-offered _ (slot (c .before))), row-count)
@@ -49,9 +49,7 @@ refuse-requires : tie.Need-refuse-requires
 refuse-requires c κs = search needs
 
 returns : tie.Need-returns
-returns c =
-    let asked = c .before .before .is-slot-link in
-    refuses (write-unoffered _ _ (sym (asked .ensures) ∙ not-true (asked .result) (c .before .if1 .taken))) (c .refuse .ensures)
+returns c = refuses (write-unoffered _ _ (fails (c .before .before .is-slot-link .ensures) (c .before .if1 .taken))) (c .refuse .ensures)
 
 place-of-requires : tie.Need-place-of-requires
 place-of-requires c κs = search needs

@@ -2,7 +2,7 @@
 use mathlib.Core.Path.{sym, ap, _∙_}
 use Prim.Native.Nat.{ℕ}
 use borrow.Author.Needs.{needs}
-use borrow.Author.Tests.{not-true, not-false}
+use Rattle.lists.proofs.Tests.{holds, fails}
 use Rattle.words.specs.Calls.{firstNear}
 use Rattle.words.proofs.Calls.{read-length, read-no-bit, read-near}
 use Rattle.words.proofs.read.Statement.{statement}
@@ -23,8 +23,7 @@ refuse-requires-2 c κs = search needs
 returns-2 : tie.Need-returns-2
 returns-2 c =
     let a = c .before .before .before .before .before .args in
-    let none = sym (c .before .before .all-bits .ensures) ∙ not-true (c .before .before .all-bits .result) (c .before .if2 .taken) in
-    c .refuse2 .ensures ∙ sym (read-no-bit (a .row .now) (c .before .before .before .if1 .left) none)
+    c .refuse2 .ensures ∙ sym (read-no-bit (a .row .now) (c .before .before .before .if1 .left) (fails (c .before .before .all-bits .ensures) (c .before .if2 .taken)))
 
 number-of-requires : tie.Need-number-of-requires
 number-of-requires c κs = search needs
@@ -35,7 +34,7 @@ first-near-requires c κs = search needs
 returns-3 : tie.Need-returns-3
 returns-3 c =
     let a = c .before .before .before .before .before .before .args in
-    let all = sym (c .before .before .before .all-bits .ensures) ∙ not-false (c .before .before .before .all-bits .result) (c .before .before .if2 .left) in
+    let all = holds (c .before .before .before .all-bits .ensures) (c .before .before .if2 .left) in
     c .first-near .ensures
     ∙ ap (λ (w : ℕ). firstNear w 0 64) (c .before .number-of .ensures)
     ∙ sym (read-near (a .row .now) (c .before .before .before .before .if1 .left) all)

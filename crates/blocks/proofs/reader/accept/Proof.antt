@@ -1,11 +1,11 @@
 -- Both tests come before the datagram is laid. Assumes nothing.
-use mathlib.Core.Path.{_≡_, sym, _∙_}
+use mathlib.Core.Path.{_≡_, _∙_}
 use mathlib.Core.Bool.{true}
 use mathlib.Core.List.{map}
 use native.Mathlib.Omega.{arith}
 use lib.ListN.{length, length-map}
-use borrow.Author.Tests.{not-true, not-false}
 use Rattle.answers.proofs.Wrote.{refuses, lays}
+use Rattle.lists.proofs.Tests.{holds, fails}
 use Rattle.bits.specs.Bits.{isOne}
 use Rattle.bits.specs.Row.{differences}
 use Rattle.distance.specs.Valid.{allZero, bitsOver}
@@ -25,7 +25,7 @@ long : (c : tie.After-over-zero) → length (map isOne (start c .args .u .now)) 
 long c = length-map (start c .args .u .now) isOne ∙ start c .pre .1
 
 zero : (c : tie.Else1) → allZero (bitsOver (codingOf (start (c .before) .args .row)) (map isOne (start (c .before) .args .u .now))) ≡ true
-zero c = sym (c .before .over-zero .ensures) ∙ not-false (c .before .over-zero .result) (c .if1 .left)
+zero c = holds (c .before .over-zero .ensures) (c .if1 .left)
 
 over-zero-requires : tie.Need-over-zero-requires
 over-zero-requires c κs = search needs
@@ -36,7 +36,7 @@ refuse-requires c κs = search needs
 returns : tie.Need-returns
 returns c =
     let at = c .before .before in
-    refuses (over-refused _ (start at .pre .0) _ _ (long at) (sym (at .over-zero .ensures) ∙ not-true (at .over-zero .result) (c .before .if1 .taken))) (c .refuse .ensures)
+    refuses (over-refused _ (start at .pre .0) _ _ (long at) (fails (at .over-zero .ensures) (c .before .if1 .taken))) (c .refuse .ensures)
 
 compare-requires : tie.Need-compare-requires
 compare-requires c κs = search needs

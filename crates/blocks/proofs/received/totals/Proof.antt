@@ -1,13 +1,13 @@
 -- Clock by clock: what is left to lay at c is how many bits the clocks from c on pass on. Assumes nothing.
 use mathlib.Core.Path.{_≡_, _∙_}
-use mathlib.Core.List.{map}
+use mathlib.Core.List.{[], map}
 use Prim.Native.Nat.{_-_, _≤_}
 use native.Mathlib.Omega.{arith}
 use lib.ListN.{length, drop, length-map}
 use Rattle.lists.specs.Over.{Laying}
 use Rattle.lists.proofs.Over.{start, more, done, over-all}
+use Rattle.lists.proofs.Parts.{map-more, map-done}
 use Rattle.links.specs.Patterns.{total}
-use Rattle.blocks.proofs.Taking.{totals-more, totals-done}
 use borrow.Author.Needs.{needs}
 use Rattle.blocks.proofs.received.totals.Statement.{statement}
 use Rattle.blocks.proofs.received.totals.Tie as tie
@@ -50,14 +50,14 @@ loop-again c =
     let at = c .before .before .before .loop in
     let pattern = c .before .before .before .before .args .t1 in
     let ten : length pattern ≡ 10 = search needs in
-    (search needs, rw (c .total .ensures) (more _ _ (at .inv .1) (totals-more pattern (at .c) (omega arith))))
+    (search needs, rw (c .total .ensures) (more _ _ (at .inv .1) (map-more total pattern [] (at .c) (omega arith))))
 
 returns : tie.Need-returns Inv-loop μ-loop
 returns c =
     let at = c .before .loop in
     let pattern = c .before .before .args .t1 in
     let ten : length pattern ≡ 10 = search needs in
-    done (at .inv .1) (totals-done pattern (at .c) (omega arith)) .1 ∙ over-all (map total pattern) _ (length-map pattern total ∙ ten)
+    done (at .inv .1) (map-done total pattern (at .c) (omega arith)) .1 ∙ over-all (map total pattern) _ (length-map pattern total ∙ ten)
 
 pub totals-spec : {M : Type 1} → statement M
 totals-spec =

@@ -7,10 +7,10 @@ use lib.ListN.{length, drop, length-map}
 use borrow.Author.Needs.{needs}
 use Rattle.lists.specs.Over.{Laying}
 use Rattle.lists.proofs.Over.{start, more, done, over-all}
+use Rattle.lists.proofs.Parts.{map-more, map-done}
 use Rattle.words.specs.Calls.{readWord}
 use Rattle.words.proofs.Calls.{read-length}
 use Rattle.link_word_printer.specs.Line.{bitOf}
-use Rattle.link_word_printer.proofs.Line.{bits-more, bits-none}
 use Rattle.link_word_printer.proofs.text.read_characters.Statement.{statement}
 use Rattle.link_word_printer.proofs.text.read_characters.Tie as tie
 
@@ -51,7 +51,7 @@ loop-again : tie.Need-loop-again Inv-loop μ-loop
 loop-again c =
     let at = c .before .before .before .loop in
     let line = c .before .before .before .before .before .before .args .line .now in
-    (search needs, search needs, at .inv .2, rw (c .bit-of .ensures) (more _ _ (at .inv .3) (bits-more line (at .i) (omega arith))))
+    (search needs, search needs, at .inv .2, rw (c .bit-of .ensures) (more _ _ (at .inv .3) (map-more bitOf line 0 (at .i) (omega arith))))
 
 slice-aggregate-read : tie.Need-slice-aggregate-read Inv-loop μ-loop
 slice-aggregate-read c = sym (c .before .before .loop .inv .3 .long ∙ c .before .before .loop .inv .2)
@@ -64,7 +64,7 @@ returns-2 c =
     let at = c .before .before .before .loop in
     let line = c .before .before .before .before .before .before .args .line .now in
     let full = length-map line bitOf ∙ at .inv .1 ∙ sym (at .inv .2) in
-    c .read2 .ensures ∙ ap readWord (done (at .inv .3) (bits-none line (at .i) (omega arith)) .1 ∙ over-all (map bitOf line) _ full)
+    c .read2 .ensures ∙ ap readWord (done (at .inv .3) (map-done bitOf line (at .i) (omega arith)) .1 ∙ over-all (map bitOf line) _ full)
 
 pub read-characters-spec : {M : Type 1} → statement M
 read-characters-spec =

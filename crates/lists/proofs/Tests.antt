@@ -1,0 +1,31 @@
+-- What tests say: two together, a choice by one, and one that a call answered.
+-- Assumes nothing.
+use mathlib.Core.Path.{_≡_, refl, sym, _∙_}
+use mathlib.Core.Logic.{_⊎_, inl, inr}
+use mathlib.Core.Bool.{Bool, true, false, not, cond, _&&_, false≢true}
+use lib.Dec.{T}
+use borrow.Author.Tests.{not-true, not-false}
+
+pub both-left : (a b : Bool) → T (a && b) → T a
+both-left true b t = tt
+both-left false b t = t
+
+pub both-right : (a b : Bool) → T (a && b) → T b
+both-right true b t = t
+both-right false b t = absurd t
+
+pub both-true : (a b : Bool) → (a && b) ≡ true → (a ≡ true) × (b ≡ true)
+both-true true b e = (refl, e)
+both-true false b e = absurd (false≢true e)
+
+-- what a test picks is one or the other
+pub either : {A : Type 0} (b : Bool) {x y z : A} → cond b x y ≡ z → ((b ≡ true) × (x ≡ z)) ⊎ ((b ≡ false) × (y ≡ z))
+either true e = inl (refl, e)
+either false e = inr (refl, e)
+
+-- code that refuses where a call says no: what the call was asked holds where it goes on, and fails where it refuses
+pub holds : {answer test : Bool} → answer ≡ test → not answer ≡ false → test ≡ true
+holds {answer} e n = sym e ∙ not-false answer n
+
+pub fails : {answer test : Bool} → answer ≡ test → not answer ≡ true → test ≡ false
+fails {answer} e n = sym e ∙ not-true answer n
