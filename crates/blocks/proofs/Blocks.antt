@@ -26,7 +26,7 @@ use Rattle.blocks.specs.Block.{opening, blockOf, imageOf, datagramOf, ze
 use Rattle.blocks.specs.Coding.{codingOf}
 use Rattle.blocks.proofs.Sound.{length-image}
 
-module _ (row : Row) (good : T (goodRow row)) (datagram : List ℕ) (fits : length datagram ≤ bytesHeld row) where
+module _ (row : Row) (good : T (goodRow row)) (datagram : List ℕ) where
   length-opening : length (opening row datagram) ≡ row .k - 32
   length-opening = length-filled (openBits row) (bitsOf datagram)
 
@@ -44,25 +44,26 @@ module _ (row : Row) (good : T (goodRow row)) (datagram : List ℕ) (fits : leng
   pub long-image : length (map byte (imageOf row (blockOf row datagram))) ≡ imageLength row
   long-image = length-map (imageOf row (blockOf row datagram)) byte ∙ length-image row good (blockOf row datagram) length-block
 
-  -- the bits over are zero
-  over-zero : allZero (bitsOver (codingOf row) (blockOf row datagram)) ≡ true
-  unfolding codingOf blockOf allZero
-  over-zero =
-      rw (
-        take-at (opening row datagram) (checkBits (opening row datagram)) (row .k - 32) length-opening,
-        drop-filled (bytesHeld row * 8) (openBits row) (bitsOf datagram) (omega (arith, length-bitsOf datagram)),
-      )
-      (every-replicate not (openBits row - bytesHeld row * 8) false refl)
+  module _ (fits : length datagram ≤ bytesHeld row) where
+    -- the bits over are zero
+    over-zero : allZero (bitsOver (codingOf row) (blockOf row datagram)) ≡ true
+    unfolding codingOf blockOf allZero
+    over-zero =
+        rw (
+          take-at (opening row datagram) (checkBits (opening row datagram)) (row .k - 32) length-opening,
+          drop-filled (bytesHeld row * 8) (openBits row) (bitsOf datagram) (omega (arith, length-bitsOf datagram)),
+        )
+        (every-replicate not (openBits row - bytesHeld row * 8) false refl)
 
-  -- the check closes it
-  pub block-valid : valid (codingOf row) (blockOf row datagram) ≡ true
-  unfolding codingOf blockOf
-  block-valid = valid-from (codingOf row) (blockOf row datagram) length-block (closed (opening row datagram)) over-zero
+    -- the check closes it
+    pub block-valid : valid (codingOf row) (blockOf row datagram) ≡ true
+    unfolding codingOf blockOf
+    block-valid = valid-from (codingOf row) (blockOf row datagram) length-block (closed (opening row datagram)) over-zero
 
-  -- and its datagram comes back, filled with zero bytes
-  pub datagram-in-block : allBytes datagram ≡ true → datagramOf row (blockOf row datagram) ≡ zeroFilled row datagram
-  unfolding datagramOf blockOf zeroFilled
-  datagram-in-block e =
-      let room : bytesHeld row * 8 ≤ openBits row = omega (arith, sizes row good .whole) in
-      bytesOf-append (bytesHeld row) (opening row datagram) (checkBits (opening row datagram)) (omega (arith, length-opening))
-      ∙ datagram-back (bytesHeld row) (openBits row) datagram e fits room
+    -- and its datagram comes back, filled with zero bytes
+    pub datagram-in-block : allBytes datagram ≡ true → datagramOf row (blockOf row datagram) ≡ zeroFilled row datagram
+    unfolding datagramOf blockOf zeroFilled
+    datagram-in-block e =
+        let room : bytesHeld row * 8 ≤ openBits row = omega (arith, sizes row good .whole) in
+        bytesOf-append (bytesHeld row) (opening row datagram) (checkBits (opening row datagram)) (omega (arith, length-opening))
+        ∙ datagram-back (bytesHeld row) (openBits row) datagram e fits room

@@ -7,7 +7,7 @@ use Prim.Native.Nat.{ℕ, _+_, _-_}
 use native.Mathlib.Nat.{zero-add}
 use native.Mathlib.Omega.{arith}
 use lib.Dec.{T}
-use lib.ListN.{length, take, drop, length-append, length-map}
+use lib.ListN.{length, take, drop, length-map}
 use lib.Seq.{take-at}
 use Rattle.lists.specs.Over.{over, Lays}
 use Rattle.lists.proofs.Over.{over-zero, over-over, over-all}
@@ -16,17 +16,16 @@ use Rattle.bits.specs.Row.{highFirst}
 use Rattle.bits.specs.Datagram.{bitsOf}
 use Rattle.bits.proofs.Bits.{bits-bytes}
 use Rattle.bits.proofs.Filled.{length-filled}
-use Rattle.bits.proofs.Row.{length-highFirst}
 use Rattle.check32.specs.Check.{register, checkBits}
 use Rattle.links.specs.declared.Row.{Row}
 use Rattle.links.specs.Good.{goodRow}
 use Rattle.links.specs.Sizes.{openBits}
-use Rattle.links.proofs.Facts.{sizes}
 use Rattle.turbo.specs.Coded.{coded}
 use Rattle.scrambler.specs.Scrambler.{loadingWord, loaded, scrambledBy, Scrambles}
 use Rattle.scrambler.proofs.Calls.{scrambles-row}
 use Rattle.scrambler.proofs.Sequence.{length-scrambledBy}
 use Rattle.blocks.specs.Block.{opening, blockOf, imageOf}
+use Rattle.blocks.proofs.Blocks.{length-block}
 
 -- the datagram's bits, zero-filled, and then their check
 module _ (row : Row) (good : T (goodRow row)) (datagram old : List ℕ) (size : length old ≡ row .k) where
@@ -47,11 +46,12 @@ module _ (row : Row) (good : T (goodRow row)) (datagram old : List ℕ) (size : 
   block-laid =
       let p = map byte (opening row datagram) in
       let q = map byte (checkBits (opening row datagram)) in
-      let long : length (p ++ q) ≡ length old = omega (arith, length-append p q, length-opening-bytes, length-map (checkBits (opening row datagram)) byte, length-highFirst 32 (register (opening row datagram)), sizes row good .check) in
+      let both = map-append byte (opening row datagram) (checkBits (opening row datagram)) in
+      let long : length (p ++ q) ≡ length old = ap length (sym both) ∙ length-map (blockOf row datagram) byte ∙ length-block row good datagram ∙ sym size in
       ap (λ (at : ℕ). over at q laid) (sym (zero-add (length p) ∙ length-opening-bytes))
       ∙ over-over 0 p q old (omega (arith, length-opening-bytes))
       ∙ over-all (p ++ q) old long
-      ∙ sym (map-append byte (opening row datagram) (checkBits (opening row datagram)))
+      ∙ sym both
 
   -- what the three calls leave: the bits, the register over them, and the register's bits behind them
   pub block-composed : (opened closed : List ℕ) (check : ℕ) → opened ≡ laid → check ≡ register (map isOne (take (row .k - 32) opened))

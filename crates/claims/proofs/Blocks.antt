@@ -114,7 +114,7 @@ pub written : (link : ℕ) (datagram old new : List ℕ) (answer : Written) → 
     → (answer .status ≡ done) × (answer .count ≡ imageLength (rowOf link)) × (take (answer .count) new ≡ map byte (imageOf (rowOf link) (blockOf (rowOf link) datagram)))
 written link datagram old new answer o h room wr =
     let m = met (blockTask link datagram) old new answer wr o h room in
-    (m .status, m .long ∙ long-image (rowOf link) (good link o) datagram h, m .bits)
+    (m .status, m .long ∙ long-image (rowOf link) (good link o) datagram, m .bits)
 
 -- ---- the way back: the block's image, as it was written or with one place inverted
 module _ (link : ℕ) (datagram old new : List ℕ) (answer : Written) (bytes : allBytes datagram ≡ true) (w : WroteBlock link datagram old new answer) (z : answer .status ≡ done)
@@ -134,7 +134,7 @@ module _ (link : ℕ) (datagram old new : List ℕ) (answer : Written) (bytes : 
 
   image-long : length (imageOf (rowOf link) u) ≡ imageLength (rowOf link)
   unfolding u
-  image-long = sym (length-map (imageOf (rowOf link) u) byte) ∙ long-image (rowOf link) row-good datagram (i .fits)
+  image-long = sym (length-map (imageOf (rowOf link) u) byte) ∙ long-image (rowOf link) row-good datagram
 
   filled : datagramOf (rowOf link) u ≡ zeroFilled (rowOf link) datagram
   unfolding u

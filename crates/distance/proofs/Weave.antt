@@ -17,7 +17,7 @@ use Rattle.bits.specs.Weave.{weave}
 use Rattle.distance.specs.Coding.{Coding, Sound, xBits, coded, image, received}
 
 -- ---- the bits X
-pub xBits-weave : (xs : List Bool) (parity : List (List Bool)) (tail : List Bool) → length xs ≡ length parity → xBits (map length parity) (weave xs parity tail) ≡ xs
+xBits-weave : (xs : List Bool) (parity : List (List Bool)) (tail : List Bool) → length xs ≡ length parity → xBits (map length parity) (weave xs parity tail) ≡ xs
 unfolding xBits weave
 xBits-weave [] [] tail e = refl
 xBits-weave [] (passed ∷ parity) tail e = absurd (omega arith)
@@ -69,7 +69,7 @@ module _ (c : Coding) (sound : Sound c) where
   unfolding image
   length-image a l = length-xorRows (c .key) (coded c a) (omega (arith, sound .sized a l, sound .covered)) ∙ sound .sized a l
 
-  pub received-image : (a : List Bool) → length a ≡ c .k → received c (image c a) ≡ a
+  received-image : (a : List Bool) → length a ≡ c .k → received c (image c a) ≡ a
   unfolding received image
   received-image a l = ap (xBits (c .counts)) (xorRows-twice (c .key) (coded c a) (omega (arith, sound .sized a l, sound .covered))) ∙ coded-back a l
 

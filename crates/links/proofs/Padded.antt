@@ -30,7 +30,7 @@ module _ (limit : ℕ) where
   abbrev pub Low : List (List ℕ) → Type 0
   Low clocks = (i x : ℕ) → getD (getD clocks i []) x 0 ≤ limit
 
-  pub low-inside : (clocks : List (List ℕ)) → ((i : ℕ) → i < length clocks → (x : ℕ) → getD (getD clocks i []) x 0 ≤ limit) → Low clocks
+  low-inside : (clocks : List (List ℕ)) → ((i : ℕ) → i < length clocks → (x : ℕ) → getD (getD clocks i []) x 0 ≤ limit) → Low clocks
   low-inside [] each i x = zero-le
   low-inside (clock ∷ clocks) each zero x = each 0 (omega arith) x
   low-inside (clock ∷ clocks) each (suc i) x = low-inside clocks (λ j h. each (suc j) (omega arith)) i x

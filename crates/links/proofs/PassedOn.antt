@@ -10,7 +10,7 @@ use Rattle.links.specs.Patterns.{flagsAt, total}
 use Rattle.links.specs.Sizes.{passedOn, tailBits}
 
 -- on m clocks and n more
-pub passed-on-split : (clocks : List (List ℕ)) (s m n : ℕ) → passedOn clocks s (m + n) ≡ passedOn clocks s m + passedOn clocks (s + m) n
+passed-on-split : (clocks : List (List ℕ)) (s m n : ℕ) → passedOn clocks s (m + n) ≡ passedOn clocks s m + passedOn clocks (s + m) n
 unfolding passedOn
 passed-on-split clocks s zero n =
     let none : 0 + n ≡ n = omega arith in

@@ -34,9 +34,9 @@ unfolding fillAt
 fill-broken left e = rw e
 
 -- ---- where a message begins: each of the three tests refuses by itself
-either : (b : Bool) (answer : Step) → cond b answer answer ≡ answer
-either true answer = refl
-either false answer = refl
+either-way : (b : Bool) (answer : Step) → cond b answer answer ≡ answer
+either-way true answer = refl
+either-way false answer = refl
 
 module _ (offset : ℕ) (left : List ℕ) where
   pub message-few : length left < 3 → messageAt offset left ≡ refused brokenMessage
@@ -45,11 +45,11 @@ module _ (offset : ℕ) (left : List ℕ) where
 
   pub message-small : declared left < 7 → messageAt offset left ≡ refused brokenMessage
   unfolding messageAt
-  message-small h = simp (lt-ltb (declared left) 7 h, either)
+  message-small h = simp (lt-ltb (declared left) 7 h, either-way)
 
   pub message-long : length left < declared left → messageAt offset left ≡ refused brokenMessage
   unfolding messageAt
-  message-long h = simp (lt-ltb (length left) (declared left) h, either)
+  message-long h = simp (lt-ltb (length left) (declared left) h, either-way)
 
   pub message-whole : 7 ≤ declared left → declared left ≤ length left → messageAt offset left ≡ message offset (declared left)
   unfolding messageAt

@@ -26,7 +26,6 @@ pub head-laid : (link : ℕ) (old mid new : List ℕ) (word : ℕ) → headLengt
     → mid ≡ over 0 (map byte training) old → word ≡ wordOf link → new ≡ over 54 (map byte (highFirst 32 word)) mid
     → new ≡ over 0 (map byte (headOf link)) old
 head-laid link old mid new word room first w second =
-    let goal = map byte (headOf link) in
     let laid-word = second ∙ ap (λ (n : ℕ). over 54 (map byte (highFirst 32 n)) mid) w in
     both-laid 0 (map byte training) (map byte (wordBits link)) old (head-parts link) (omega (arith, length-head link)) {between = 54} {end = 86}
     (omega (arith, length-training), first)

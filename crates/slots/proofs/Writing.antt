@@ -37,7 +37,7 @@ module _ (link : ℕ) (o : isSlotLink link ≡ true) (datagram : List ℕ) (fits
   image = map byte (imageOf (rowOf link) (blockOf (rowOf link) datagram))
 
   length-block : length image ≡ imageLength (rowOf link)
-  length-block = long-image (rowOf link) (good link (slot-offered link o)) datagram fits
+  length-block = long-image (rowOf link) (good link (slot-offered link o)) datagram
 
   burst-parts : map byte (burstOf link datagram) ≡ map byte (headOf link) ++ image
   unfolding burstOf

@@ -13,7 +13,7 @@ use lib.Seq.{drop-cons}
 use borrow.Author.Tests.{eq-eqb, ne-eqb}
 use Rattle.words.specs.Word.{generator, scrambling, withRows, wordOf}
 
-pub six : length generator ≡ 6
+six : length generator ≡ 6
 unfolding generator
 six = refl
 

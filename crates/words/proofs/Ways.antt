@@ -1,15 +1,18 @@
 -- The ways that each call goes, line by line as document 01 numbers them.
 -- Assumes nothing.
 use mathlib.Core.Path.{_≡_, refl, sym, ap, _∙_}
-use mathlib.Core.Logic.{_⊎_, inl, inr, ⊎-elim}
+use mathlib.Core.Logic.{_⊎_, inl, inr, ⊎-elim, by-cases}
 use mathlib.Core.Bool.{Bool, true, false, true≢false}
 use mathlib.Core.List.{List, map}
 use Prim.Native.Nat.{ℕ, zero, suc, _<_, _≤_}
+use native.Mathlib.Decide.{decLe}
+use native.Mathlib.Nat.{lt-of-not-le}
+use native.Mathlib.Numerals.{add-one}
 use native.Mathlib.Omega.{arith}
-use native.Mathlib.Nat.{eq-or-lt-of-le, le-of-suc-le-suc}
-use lib.Dec.{eqb, leb, ltb}
+use lib.Dec.{eqb, ltb}
 use lib.ListN.{length, length-map}
-use borrow.Author.Tests.{eqb-true, eqb-false, leb-true, leb-false, ltb-true, ltb-false}
+use borrow.Author.Count.{below-more}
+use borrow.Author.Tests.{eqb-true, eqb-false, ltb-true, ltb-false}
 use Rattle.answers.specs.Numbers.{done, notOffered, wrongLength, noRoom, noBit, noWord}
 use Rattle.answers.specs.Outcome.{refusal, writing}
 use Rattle.bits.specs.Bits.{isOne, byte, allBits}
@@ -52,13 +55,12 @@ SomeNear row = (n : ℕ) × Near row n (differences (wordBits n) row)
 -- one of the numbers below a bound is near, or none is
 look : (row : List Bool) (most : ℕ) → most ≤ 64 → SomeNear row ⊎ NoneNear row most
 look row zero h = inr (λ n l. absurd (omega arith))
-look row (suc most) h = ⊎-elim inl (λ none. next none (leb (differences (wordBits most) row) 7) refl) (look row most (omega arith))
+look row (suc most) h = ⊎-elim inl next (look row most (omega arith))
   where
-    next : NoneNear row most → (b : Bool) → leb (differences (wordBits most) row) 7 ≡ b → SomeNear row ⊎ NoneNear row (suc most)
-    next none true e = inl (most, record { known = omega arith; count = refl; within = leb-true (differences (wordBits most) row) 7 e })
-    next none false e =
-        let here = leb-false (differences (wordBits most) row) 7 e in
-        inr (λ n l. ⊎-elim (λ (same : n ≡ most). rw same here) (λ (less : n < most). none n less) (eq-or-lt-of-le (le-of-suc-le-suc l)))
+    next : NoneNear row most → SomeNear row ⊎ NoneNear row (suc most)
+    next none =
+        by-cases (decLe (differences (wordBits most) row) 7) (λ close. inl (most, record { known = omega arith; count = refl; within = close }))
+        (λ far. inr (rw add-one at (below-more (λ (n : ℕ). 7 < differences (wordBits n) row) most none (lt-of-not-le far))))
 
 pub reading-goes : (row : List ℕ) → Reading row
 reading-goes row = decided (eqb (length row) 32) (allBits row) refl refl

@@ -83,9 +83,8 @@ write-row-requires c κs =
 
 cast-done : tie.Need-cast-done
 cast-done c =
-    let at = c .before .before .before .before .before in
-    let found = at .before .before .before in
-    record { fits = omega (arith, c .before .before .write-row .ensures .0, long-image _ (is-good found) (start (found .before) .args .datagram .now) (fits (at .before)), sizes _ (is-good found) .image) }
+    let found = c .before .before .before .before .before .before .before .before in
+    record { fits = omega (arith, c .before .before .write-row .ensures .0, long-image _ (is-good found) (start (found .before) .args .datagram .now), sizes _ (is-good found) .image) }
 
 done-requires : tie.Need-done-requires
 done-requires c κs = search needs

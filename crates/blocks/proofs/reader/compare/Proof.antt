@@ -14,28 +14,24 @@ use borrow.Author.Needs.{needs}
 use Rattle.blocks.proofs.reader.compare.Statement.{statement}
 use Rattle.blocks.proofs.reader.compare.Tie as tie
 
+short : (c : tie.After-block) → length (c .before .before .before .before .args .u .now) ≤ 5616
+short c = let start = c .before .before .before .before in omega (arith, start .pre .1, sizes _ (start .pre .0) .block)
+
 block-requires : tie.Need-block-requires
 block-requires c κs = search needs
 
 array-borrow-prefix-v : tie.Need-array-borrow-prefix-v
-array-borrow-prefix-v c =
-    let start = c .before .before .before .before in
-    let short : length (start .args .u .now) ≤ 5616 = omega (arith, start .pre .1, sizes (start .args .row) (start .pre .0) .block) in
-    scratch-enough 5616 _ (c .block .ensures) short
+array-borrow-prefix-v c = scratch-enough 5616 _ (c .block .ensures) (short c)
 
 slice-aggregate-lay-image : tie.Need-slice-aggregate-lay-image
-slice-aggregate-lay-image c =
-    let start = c .before .before .before .before .before in
-    let short : length (start .args .u .now) ≤ 5616 = omega (arith, start .pre .1, sizes (start .args .row) (start .pre .0) .block) in
-    sym (length-lent 5616 _ (c .before .block .ensures) short)
+slice-aggregate-lay-image c = sym (length-lent 5616 _ (c .before .block .ensures) (short (c .before)))
 
 lay-image-requires : tie.Need-lay-image-requires
 lay-image-requires c κs =
-    let start = c .before .before .before .before .before .before in
-    let short : length (start .args .u .now) ≤ 5616 = omega (arith, start .pre .1, sizes (start .args .row) (start .pre .0) .block) in (
+    let start = c .before .before .before .before .before .before in (
       start .pre .0,
       start .pre .1,
-      length-lent 5616 _ (c .before .before .block .ensures) short ∙ start .pre .1,
+      length-lent 5616 _ (c .before .before .block .ensures) (short (c .before .before)) ∙ start .pre .1,
       start .pre .2,
       omega (arith, start .pre .5),
     )
