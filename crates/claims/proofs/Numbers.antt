@@ -27,15 +27,13 @@ use Rattle.messages.specs.Stepping.{Stepping, past, ends, spoils, breaks, finds
 use Rattle.messages.proofs.Stepping.{past-exact, broken-exact, spoilt-exact}
 use Rattle.claims.specs.Lines.{Lines, line, Given}
 use Rattle.claims.specs.Calls as calls
+use Rattle.claims.proofs.Endings.{writers}
 
-abbrev written : Written → ℕ
-written answer = answer .status
+abbrev block-status : Block → ℕ
+block-status answer = answer .status
 
-abbrev read : Block → ℕ
-read answer = answer .status
-
-abbrev burst-read : Slot → ℕ
-burst-read answer = answer .status
+abbrev slot-status : Slot → ℕ
+slot-status answer = answer .status
 
 -- a test that came out true did not come out false
 true-passes : {b : Bool} → b ≡ true → b ≡ false → ⊥
@@ -45,9 +43,9 @@ true-passes t f = true≢false (sym t ∙ f)
 module _ (n : ℕ) (old new : List ℕ) (answer : Written) (wr : calls.WroteWord n old new answer) where
   pub writes-word : w.Writing n (length old) → Given (calls.writeWordLines n (length old)) (answer .status)
   unfolding Given
-  writes-word (w.too-high h e) = inl (h, told wr written e)
-  writes-word (w.too-short h s e) = inr (λ k. omega arith, inl (s, told wr written e))
-  writes-word (w.writes h s e) = inr (λ k. omega arith, inr (λ k. omega arith, told wr written e))
+  writes-word (w.too-high h e) = inl (h, told wr (writers .status) e)
+  writes-word (w.too-short h s e) = inr (λ k. omega arith, inl (s, told wr (writers .status) e))
+  writes-word (w.writes h s e) = inr (λ k. omega arith, inr (λ k. omega arith, told wr (writers .status) e))
 
 module _ (row : List ℕ) (answer : Word) (e : calls.ReadWord row answer) where
   status-read : {word : Word} → readWord row ≡ word → answer .status ≡ word .status
@@ -65,21 +63,21 @@ module _ (row : List ℕ) (answer : Word) (e : calls.ReadWord row answer) where
 module _ (task : Task) (old new : List ℕ) (answer : Written) (wr : Wrote (writeTask task (length old)) old new answer) where
   pub writes-task : t.Writing task (length old) → Given (calls.taskLines task (length old)) (answer .status)
   unfolding Given
-  writes-task (t.unoffered o e) = inl (o, told wr written e)
-  writes-task (t.too-long o h e) = inr (true-passes o, inl (h, told wr written e))
-  writes-task (t.too-short o h s e) = inr (true-passes o, inr (λ k. omega arith, inl (s, told wr written e)))
-  writes-task (t.writes o h s e) = inr (true-passes o, inr (λ k. omega arith, inr (λ k. omega arith, told wr written e)))
+  writes-task (t.unoffered o e) = inl (o, told wr (writers .status) e)
+  writes-task (t.too-long o h e) = inr (true-passes o, inl (h, told wr (writers .status) e))
+  writes-task (t.too-short o h s e) = inr (true-passes o, inr (λ k. omega arith, inl (s, told wr (writers .status) e)))
+  writes-task (t.writes o h s e) = inr (true-passes o, inr (λ k. omega arith, inr (λ k. omega arith, told wr (writers .status) e)))
 
 -- ---- blocks
 module _ (link : ℕ) (bits old new : List ℕ) (answer : Block) (wr : calls.ReadBlock link bits old new answer) where
   pub reads-block : rb.Reading link bits (length old) → Given (calls.readBlockLines link bits (length old)) (answer .status)
   unfolding Given
-  reads-block (rb.unoffered o e) = inl (o, told wr read e)
-  reads-block (rb.no-length o s e) = inr (true-passes o, inl (s, told wr read e))
-  reads-block (rb.too-short o s r e) = inr (true-passes o, inr (λ k. k s, inl (r, told wr read e)))
-  reads-block (rb.no-bits o s r a e) = inr (true-passes o, inr (λ k. k s, inr (λ k. omega arith, inl (a, told wr read e))))
-  reads-block (rb.none-near o s r a f e) = inr (true-passes o, inr (λ k. k s, inr (λ k. omega arith, inr (true-passes a, inl (f, told wr read e)))))
-  reads-block (rb.reads o s r a u n e) = inr (true-passes o, inr (λ k. k s, inr (λ k. omega arith, inr (true-passes a, inr (λ k. k u n, told wr read e)))))
+  reads-block (rb.unoffered o e) = inl (o, told wr block-status e)
+  reads-block (rb.no-length o s e) = inr (true-passes o, inl (s, told wr block-status e))
+  reads-block (rb.too-short o s r e) = inr (true-passes o, inr (λ k. k s, inl (r, told wr block-status e)))
+  reads-block (rb.no-bits o s r a e) = inr (true-passes o, inr (λ k. k s, inr (λ k. omega arith, inl (a, told wr block-status e))))
+  reads-block (rb.none-near o s r a f e) = inr (true-passes o, inr (λ k. k s, inr (λ k. omega arith, inr (true-passes a, inl (f, told wr block-status e)))))
+  reads-block (rb.reads o s r a u n e) = inr (true-passes o, inr (λ k. k s, inr (λ k. omega arith, inr (true-passes a, inr (λ k. k u n, told wr block-status e)))))
 
 -- ---- slot bursts
 module _ (burst old new : List ℕ) (answer : Slot) (wr : calls.ReadSlot burst old new answer) where
@@ -103,17 +101,17 @@ module _ (burst old new : List ℕ) (answer : Slot) (wr : calls.ReadSlot burst o
 
   pub reads-slot : rs.Reading burst (length old) → Given (calls.readSlotLines burst (length old)) (answer .status)
   unfolding Given
-  reads-slot (rs.too-few h e) = inl (h, told wr burst-read e)
-  reads-slot (rs.no-bits l a e) = inr (λ k. omega (arith, l, k), inl (a, told wr burst-read e))
-  reads-slot (rs.no-training l a t e) = inr (λ k. omega (arith, l, k), inr (true-passes a, inl (t, told wr burst-read e)))
+  reads-slot (rs.too-few h e) = inl (h, told wr slot-status e)
+  reads-slot (rs.no-bits l a e) = inr (λ k. omega (arith, l, k), inl (a, told wr slot-status e))
+  reads-slot (rs.no-training l a t e) = inr (λ k. omega (arith, l, k), inr (true-passes a, inl (t, told wr slot-status e)))
   reads-slot (rs.no-word t f e) =
-      past-training t (calls.wordLines burst (calls.restLines (calls.named burst) (blockPart burst) (length old))) (inl (f, told wr burst-read e))
-  reads-slot (rs.no-slot link wrong n s e) = past-word link wrong n (inl (s, told wr burst-read e))
-  reads-slot (rs.no-length link wrong h s e) = past-head link wrong h (inl (s, told wr burst-read e))
-  reads-slot (rs.too-short link wrong h s r e) = past-head link wrong h (inr (λ k. k s, inl (r, told wr burst-read e)))
-  reads-slot (rs.rest-no-bits link wrong h z a e) = past-head link wrong h (inr (λ k. k (z .size), inr (λ k. omega (arith, z .fits, k), inl (a, told wr burst-read e))))
-  reads-slot (rs.none-near link wrong h z a f e) = past-head link wrong h (inr (λ k. k (z .size), inr (λ k. omega (arith, z .fits, k), inr (true-passes a, inl (f, told wr burst-read e)))))
-  reads-slot (rs.reads link wrong h z a u n e) = past-head link wrong h (inr (λ k. k (z .size), inr (λ k. omega (arith, z .fits, k), inr (true-passes a, inr (λ k. k u n, told wr burst-read e)))))
+      past-training t (calls.wordLines burst (calls.restLines (calls.named burst) (blockPart burst) (length old))) (inl (f, told wr slot-status e))
+  reads-slot (rs.no-slot link wrong n s e) = past-word link wrong n (inl (s, told wr slot-status e))
+  reads-slot (rs.no-length link wrong h s e) = past-head link wrong h (inl (s, told wr slot-status e))
+  reads-slot (rs.too-short link wrong h s r e) = past-head link wrong h (inr (λ k. k s, inl (r, told wr slot-status e)))
+  reads-slot (rs.rest-no-bits link wrong h z a e) = past-head link wrong h (inr (λ k. k (z .size), inr (λ k. omega (arith, z .fits, k), inl (a, told wr slot-status e))))
+  reads-slot (rs.none-near link wrong h z a f e) = past-head link wrong h (inr (λ k. k (z .size), inr (λ k. omega (arith, z .fits, k), inr (true-passes a, inl (f, told wr slot-status e)))))
+  reads-slot (rs.reads link wrong h z a u n e) = past-head link wrong h (inr (λ k. k (z .size), inr (λ k. omega (arith, z .fits, k), inr (true-passes a, inr (λ k. k u n, told wr slot-status e)))))
 
 -- ---- steps
 module _ (datagram : List ℕ) (position : ℕ) (answer : Step) (e : calls.Stepped datagram position answer) where

@@ -1,13 +1,15 @@
 -- The one candidate: it closes, and it is the only row within one place that does.
 -- Assumes nothing.
 use mathlib.Core.Path.{_≡_, refl, sym, ap, _∙_}
-use mathlib.Core.Bool.{Bool, true, false, cond}
+use mathlib.Core.Logic.{⊎-elim}
+use mathlib.Core.Bool.{Bool, true, cond}
 use mathlib.Core.List.{List}
 use mathlib.Core.Option.{Option, none, some, Option·none-ne-some}
 use Prim.Native.Nat.{ℕ, _<_, _≤_}
 use lib.Dec.{eqb, ltb}
 use lib.ListN.{length}
 use borrow.Author.Tests.{eqb-true, ltb-true, eq-eqb, ne-eqb, lt-ltb, le-ltb}
+use Rattle.lists.proofs.Tests.{either}
 use Rattle.bits.specs.Row.{differences, flip}
 use Rattle.bits.proofs.Flip.{length-flip, OneOff, same, flipped, one-off}
 use Rattle.check32.specs.Check.{register, Closes}
@@ -31,17 +33,17 @@ candidate-none row c h = simp (ne-eqb (register row) 0 c, le-ltb (wrongAfter row
 -- ---- a row as long that closes
 pub candidate-closes : (row a : List Bool) → candidate row ≡ some a → (length a ≡ length row) × Closes a
 unfolding candidate
-candidate-closes row a e = decided (eqb (register row) 0) (ltb (wrongAfter row) (length row)) refl refl e
+candidate-closes row a e = ⊎-elim (λ w. at row (w .1) (refl, eqb-true (register row) 0 (w .0))) (λ w. told (w .1)) (either (eqb (register row) 0) e)
   where
     at : (x : List Bool) → some x ≡ some a → (length x ≡ length row) × Closes x → (length a ≡ length row) × Closes a
     at x e w = let equal : x ≡ a = cc in rw equal at w
 
-    decided : (b d : Bool) → eqb (register row) 0 ≡ b → ltb (wrongAfter row) (length row) ≡ d
-        → cond b (some row) (cond d (some (flip (wrongPlace row) row)) none) ≡ some a → (length a ≡ length row) × Closes a
-    decided true d p q e = at row e (refl, eqb-true (register row) 0 p)
-    decided false true p q e =
-        at (flip (wrongPlace row) row) e (length-flip (wrongPlace row) row, told-closes row (ltb-true (wrongAfter row) (length row) q))
-    decided false false p q e = absurd (Option·none-ne-some a e)
+    told : cond (ltb (wrongAfter row) (length row)) (some (flip (wrongPlace row) row)) none ≡ some a → (length a ≡ length row) × Closes a
+    told e =
+        ⊎-elim
+        (λ w. at (flip (wrongPlace row) row) (w .1) (length-flip (wrongPlace row) row, told-closes row (ltb-true (wrongAfter row) (length row) (w .0))))
+        (λ w. absurd (Option·none-ne-some a (w .1)))
+        (either (ltb (wrongAfter row) (length row)) e)
 
 pub candidate-found : (row a : List Bool) → length row ≤ longest → length a ≡ length row → Closes a → differences a row ≤ 1 → candidate row ≡ some a
 candidate-found row a s l c h = goes (one-off a row l h)
@@ -57,11 +59,10 @@ candidate-found row a s l c h = goes (one-off a row l h)
 pub passing-some : (test : List Bool → Bool) (o : Option (List Bool)) (a : List Bool) → passing test o ≡ some a → (o ≡ some a) × (test a ≡ true)
 unfolding passing
 passing-some test none a e = absurd (Option·none-ne-some a e)
-passing-some test (some x) a e = decided (test x) refl e
+passing-some test (some x) a e = ⊎-elim (λ w. passed (w .0) (w .1)) (λ w. absurd (Option·none-ne-some a (w .1))) (either (test x) e)
   where
-    decided : (b : Bool) → test x ≡ b → cond b (some x) none ≡ some a → (some x ≡ some a) × (test a ≡ true)
-    decided true t e = let equal : x ≡ a = cc in (e, rw equal at t)
-    decided false t e = absurd (Option·none-ne-some a e)
+    passed : test x ≡ true → some x ≡ some a → (some x ≡ some a) × (test a ≡ true)
+    passed t e = let equal : x ≡ a = cc in (e, rw equal at t)
 
 pub some-passing : (test : List Bool → Bool) (o : Option (List Bool)) (a : List Bool) → o ≡ some a → test a ≡ true → passing test o ≡ some a
 unfolding passing

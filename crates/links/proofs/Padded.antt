@@ -1,14 +1,14 @@
 -- Clocks in an array: those of a pattern and of a tail are found again, and no flag is above theirs.
 -- Assumes nothing.
 use mathlib.Core.Path.{_≡_, refl}
-use mathlib.Core.Bool.{Bool, true, false}
+use mathlib.Core.Logic.{by-cases}
 use mathlib.Core.List.{List, [], _∷_, _++_, append-nil}
 use Prim.Native.Nat.{ℕ, zero, suc, _+_, _-_, _≤_, _<_, zero-le}
+use native.Mathlib.Decide.{decLt}
 use native.Mathlib.Omega.{arith}
-use lib.Dec.{T, ltb, leb→le}
+use lib.Dec.{T, leb→le}
 use lib.ListN.{length, getD, take, replicate}
 use lib.Seq.{take-at}
-use borrow.Author.Tests.{ltb-true, ltb-false}
 use Rattle.lists.specs.Every.{every}
 use Rattle.lists.proofs.Every.{every-place}
 use Rattle.links.specs.declared.Row.{Row}
@@ -59,11 +59,6 @@ module _ (row : Row) (good : T (goodRow row)) where
   low-tail = low-inside 2 (tailOf (row .tail)) each
     where
       each : (i : ℕ) → i < length (tailOf (row .tail)) → (x : ℕ) → getD (getD (tailOf (row .tail)) i []) x 0 ≤ 2
-      each i h x = decided (ltb i 3) refl
-        where
-          decided : (b : Bool) → ltb i 3 ≡ b → getD (getD (tailOf (row .tail)) i []) x 0 ≤ 2
-          decided true e = tail row good .first i (ltb-true i 3 e) .low x
-          decided false e =
-              let behind : 3 ≤ i = ltb-false i 3 e in
-              let place : 3 + (i - 3) ≡ i = omega arith in
-              rw place at (tail row good .second (i - 3) (omega (arith, tail row good .six)) .low x)
+      each i h x =
+          by-cases (decLt i 3) (λ first. tail row good .first i first .low x)
+          (λ second. let place : 3 + (i - 3) ≡ i = omega (arith, second) in rw place at (tail row good .second (i - 3) (omega (arith, tail row good .six)) .low x))

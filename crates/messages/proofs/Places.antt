@@ -1,13 +1,13 @@
 -- The tests of a step say what document 01 says of the places of a datagram.
 -- Assumes nothing.
 use mathlib.Core.Path.{_≡_, refl, sym, ap, _∙_, subst}
-use mathlib.Core.Logic.{inl, inr}
+use mathlib.Core.Logic.{inl, inr, by-cases}
 use mathlib.Core.Bool.{Bool, true, false, true≢false}
 use mathlib.Core.List.{List}
 use Prim.Native.Nat.{ℕ, _+_, _-_, _<_}
 use native.Mathlib.Nat.{add-zero}
+use native.Mathlib.Decide.{ℕ-discrete}
 use native.Mathlib.Omega.{arith}
-use lib.Dec.{eqb}
 use lib.ListN.{length, getD, drop, length-drop}
 use lib.Seq.{getD-drop}
 use borrow.Author.Tests.{eqb-true, ne-eqb}
@@ -18,11 +18,7 @@ use Rattle.messages.specs.Step.{declared}
 
 -- ---- a byte
 pub fill-is : (b : ℕ) → isFill b ≡ true → Fill b
-fill-is b e = decided (eqb b 0) refl
-  where
-    decided : (t : Bool) → eqb b 0 ≡ t → Fill b
-    decided true z = inl (eqb-true b 0 z)
-    decided false z = inr (eqb-true b 81 (rw z at e))
+fill-is b e = by-cases (ℕ-discrete b 0) inl (λ ne. inr (eqb-true b 81 (rw (ne-eqb b 0 ne) at e)))
 
 pub is-fill : (b : ℕ) → Fill b → isFill b ≡ true
 is-fill b (inl e) = rw e
