@@ -1,5 +1,5 @@
 -- Both tests come before the datagram is laid. Assumes nothing.
-use mathlib.Core.Path.{_≡_, _∙_}
+use mathlib.Core.Path.{_≡_, sym, ap₂, _∙_}
 use mathlib.Core.Bool.{true}
 use mathlib.Core.List.{map}
 use native.Mathlib.Omega.{arith}
@@ -12,6 +12,7 @@ use Rattle.distance.specs.Valid.{allZero, bitsOver}
 use Rattle.links.proofs.Facts.{sizes}
 use Rattle.blocks.specs.Block.{imageOf}
 use Rattle.blocks.specs.Coding.{codingOf}
+use Rattle.blocks.specs.Reading.{found}
 use Rattle.blocks.proofs.Accepting.{over-refused, far-refused, near-accepted, length-datagram, datagram-laid}
 use borrow.Author.Needs.{needs}
 use Rattle.blocks.proofs.reader.accept.Statement.{statement}
@@ -89,7 +90,7 @@ returns-3 c =
     let count : compared .result ≡ differences (imageOf (a .row) (map isOne (a .u .now))) (map isOne (a .came .now)) = omega (arith, compared .ensures, c .before .before .before .before .before .before .if2 .left) in
     lays
     (near-accepted _ (start at .pre .0) _ _ (long at) (zero passed) (omega (arith, count, c .before .before .before .before .before .before .if2 .left)))
-    (rw (length-datagram (a .row) (map isOne (a .u .now)), ← held, ← count) (c .answer .ensures))
+    (c .answer .ensures ∙ ap₂ found (held ∙ sym (length-datagram (a .row) (map isOne (a .u .now)))) count)
     (datagram-laid (a .row) (map isOne (a .u .now)) (a .out .now) _ held (c .before .before .before .pack .ensures))
 
 pub accept-spec : {M : Type 1} → statement M
