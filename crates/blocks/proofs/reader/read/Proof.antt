@@ -8,6 +8,7 @@ use borrow.Author.Tests.{not-true, not-false, eqb-true, eqb-false, ltb-true, ltb
 use borrow.Author.Needs.{needs}
 use Rattle.answers.proofs.Wrote.{refuses}
 use Rattle.bits.specs.Bits.{allBits}
+use Rattle.lists.proofs.Tests.{holds, fails}
 use Rattle.links.specs.Rows.{offered, rowOf}
 use Rattle.links.specs.Sizes.{bytesHeld, imageLength}
 use Rattle.links.proofs.Facts.{sizes}
@@ -49,7 +50,7 @@ fits c =
     omega (arith, held at, ltb-false (length (begun at .args .out .now)) (at .bytes-held .result) (c .if3 .left))
 
 all : (c : tie.Else4) → allBits (begun (c .before .before .before .before) .args .bits .now) ≡ true
-all c = sym (c .before .before .all-bits .ensures) ∙ not-false _ (c .if4 .left)
+all c = holds (c .before .before .all-bits .ensures) (c .if4 .left)
 
 place-of-requires : tie.Need-place-of-requires
 place-of-requires c κs = search needs
@@ -98,9 +99,8 @@ refuse-requires-4 c κs = search needs
 
 returns-4 : tie.Need-returns-4
 returns-4 c =
-    let tested = c .before .before .before .all-bits in
     let sized = c .before .before .before .before in
-    refuses (read-no-bit _ _ _ (offers (placed (sized .before))) (size sized) (fits (c .before .before)) (sym (tested .ensures) ∙ not-true (tested .result) (c .before .if4 .taken))) (c .refuse4 .ensures)
+    refuses (read-no-bit _ _ _ (offers (placed (sized .before))) (size sized) (fits (c .before .before)) (fails (c .before .before .before .all-bits .ensures) (c .before .if4 .taken))) (c .refuse4 .ensures)
 
 read-row-requires : tie.Need-read-row-requires
 read-row-requires c κs =

@@ -8,6 +8,7 @@ use lib.Seq.{length-take-le}
 use borrow.Author.Needs.{needs}
 use borrow.Author.Tests.{not-true, not-false, eqb-true, eqb-false}
 use Rattle.answers.specs.Numbers.{done}
+use Rattle.lists.proofs.Tests.{holds, fails}
 use Rattle.bits.specs.Bits.{allBits}
 use Rattle.words.specs.declared.Word.{Word}
 use Rattle.words.proofs.Ways.{no-word}
@@ -26,7 +27,7 @@ abbrev long : tie.Else2 → tie.Else1
 long c = c .before .before .before
 
 all : (c : tie.Else2) → allBits (headPart (burst (long c))) ≡ true
-all c = sym (c .before .all-bits .ensures) ∙ not-false _ (c .if2 .left)
+all c = holds (c .before .all-bits .ensures) (c .if2 .left)
 
 -- where the training was compared and the word was read
 abbrev bits : tie.After-struct-known → tie.Else2
@@ -66,8 +67,7 @@ refuse-requires-2 c κs = search needs
 returns-2 : tie.Need-returns-2
 returns-2 c =
     let at = c .before .before .before .before in
-    let tested = c .before .before .all-bits in
-    c .refuse2 .ensures ∙ sym (head-no-bit (burst at) (at .if1 .left) (sym (tested .ensures) ∙ not-true (tested .result) (c .before .if2 .taken)))
+    c .refuse2 .ensures ∙ sym (head-no-bit (burst at) (at .if1 .left) (fails (c .before .before .all-bits .ensures) (c .before .if2 .taken)))
 
 slice-aggregate-wrong : tie.Need-slice-aggregate-wrong
 slice-aggregate-wrong c =
@@ -123,14 +123,12 @@ refuse-requires-5 c κs = search needs
 returns-5 : tie.Need-returns-5
 returns-5 c =
     let at = c .before .before .before in
-    let slot = c .before .before .is-slot-link in
-    c .refuse5 .ensures ∙ sym (head (at .before) ∙ word-no-slot _ (named at) (sym (slot .ensures) ∙ not-true (slot .result) (c .before .if5 .taken)))
+    c .refuse5 .ensures ∙ sym (head (at .before) ∙ word-no-slot _ (named at) (fails (c .before .before .is-slot-link .ensures) (c .before .if5 .taken)))
 
 returns-6 : tie.Need-returns-6
 returns-6 c =
     let at = c .before .before in
-    let slot = c .before .is-slot-link in
-    sym (head (at .before) ∙ word-slot _ (named at) (sym (slot .ensures) ∙ not-false (slot .result) (c .if5 .left)))
+    sym (head (at .before) ∙ word-slot _ (named at) (holds (c .before .is-slot-link .ensures) (c .if5 .left)))
 
 pub read-spec : {M : Type 1} → statement M
 read-spec =
