@@ -1,12 +1,15 @@
 pub mod Affine
 pub mod AtClock
 pub mod Cases
+pub mod Eights
 pub mod Interleaved
+pub mod Joined
 pub mod Left
 pub mod Lengths
 pub mod Number
 pub mod OfRow
 pub mod Passing
 pub mod Permutation
+pub mod Rows
 pub mod Steps
 pub mod Weave

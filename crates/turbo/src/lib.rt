@@ -1,5 +1,6 @@
 // The turbo encoder (M.2092-1, Annex 2, 1.2.4; document 01, "From datagram to block"): the interleaver, the clocks of a block and the ending.
 mod clocks;
+mod eight;
 mod encoder;
 mod ending;
 mod interleaver;
