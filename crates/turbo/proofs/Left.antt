@@ -12,6 +12,7 @@ use Rattle.bits.specs.Bits.{isOne, byte}
 use Rattle.links.specs.Patterns.{flagsAt}
 use Rattle.turbo.specs.Encoder.{Register, start, feedback, next}
 use Rattle.turbo.specs.Coded.{six, passed, alone, endingOf, ending, codedFrom}
+use Rattle.turbo.specs.Encode.{left}
 use Rattle.turbo.proofs.Passing.{map-passed}
 
 -- ---- of the ending of one encoder, the clocks of the tail from t to e
@@ -38,10 +39,7 @@ secondBytes tail b = map byte (endingOf true (slice 3 6 tail) b)
 pub ending-both : (tail : List (List ℕ)) (a b : Register) → length tail ≡ 6 → map byte (ending tail a b) ≡ firstBytes tail a ++ secondBytes tail b
 ending-both tail a b l = rw (take-all 6 tail (omega (arith, l))) (map-append byte (endingOf false (take 3 tail) a) (endingOf true (drop 3 tail) b))
 
--- ---- of a block: u and v its bits and the same interleaved, at clock s with the registers a and b
-unfoldable pub left : List (List ℕ) → List (List ℕ) → List ℕ → List ℕ → ℕ → Register → Register → List ℕ
-left pattern tail u v s a b = map byte (codedFrom pattern tail s a b (map isOne (drop s u)) (map isOne (drop s v)))
-
+-- ---- of a block
 module _ (pattern tail : List (List ℕ)) (u v : List ℕ) where
   pub left-start : left pattern tail u v 0 start start ≡ map byte (codedFrom pattern tail 0 start start (map isOne u) (map isOne v))
   unfolding left

@@ -1,6 +1,8 @@
 pub mod Affine
 pub mod AtClock
+pub mod AtGroup
 pub mod Cases
+pub mod Digits
 pub mod Eights
 pub mod Interleaved
 pub mod Joined
@@ -10,6 +12,8 @@ pub mod Number
 pub mod OfRow
 pub mod Passing
 pub mod Permutation
+pub mod Places
 pub mod Rows
 pub mod Steps
+pub mod Together
 pub mod Weave

@@ -3,12 +3,13 @@
 use mathlib.Core.Path.{_≡_, refl, sym, ap, ap₂, _∙_}
 use mathlib.Core.Bool.{Bool}
 use mathlib.Core.List.{List, [], _∷_, _++_, map, map-append, append-assoc}
-use Prim.Native.Nat.{ℕ, zero, suc, _+_, _≤_, _<_}
+use Prim.Native.Nat.{ℕ, zero, suc, _+_, _%_, _≤_, _<_}
+use native.Mathlib.Nat.{mod-lt}
 use native.Mathlib.Numerals.{add-one}
 use native.Mathlib.Omega.{arith}
 use lib.ListN.{length, getD, take, drop, replicate, length-append, length-replicate, drop-of-length-le}
-use lib.Seq.{drop-cons}
-use Rattle.links.specs.Patterns.{total}
+use lib.Seq.{drop-cons, getD-take, length-take-le}
+use Rattle.links.specs.Patterns.{flagsAt, total}
 use Rattle.turbo.specs.Coded.{passed}
 
 -- how much passes depends on the flags only
@@ -66,3 +67,9 @@ passed-split (suc n) (flag ∷ flags) [] = sym (of-nothing (drop n flags))
 passed-split (suc n) (flag ∷ flags) (b ∷ bits) =
     ap (_++_ (replicate flag b)) (passed-split n flags bits)
     ∙ sym (append-assoc (replicate flag b) (passed (take n flags) (take n bits)) (passed (drop n flags) (drop n bits)))
+
+-- the flags of clock s, where c is its place in the pattern
+pub flags-at : (pattern : List (List ℕ)) (period c s : ℕ) → 0 < period → period ≤ length pattern → c ≡ s % period → flagsAt (take period pattern) s ≡ getD pattern c []
+unfolding flagsAt
+flags-at pattern period c s some enough e =
+    rw (length-take-le period pattern enough, getD-take period pattern (s % period) [] (mod-lt s some), e)

@@ -3,9 +3,9 @@ use mathlib.Core.Path.{_≡_}
 use mathlib.Core.Bool.{true}
 use mathlib.Core.List.{List, [], map}
 use Prim.Native.Nat.{ℕ, _≤_, _<_}
-use lib.ListN.{length, getD, take}
+use lib.ListN.{length, getD, take, drop}
 use Rattle.bits.specs.Bits.{isOne, byte, allBits}
-use Rattle.turbo.specs.Encoder.{start}
+use Rattle.turbo.specs.Encoder.{Register, start}
 use Rattle.turbo.specs.Coded.{codedFrom}
 
 -- no flag of a clock asks for more than two copies
@@ -28,3 +28,7 @@ pub record Ready (u v : List ℕ) (pattern : List (List ℕ)) (period : ℕ) (ta
 -- the coded bits of both, one to a byte
 unfoldable pub codedBytes : List ℕ → List ℕ → List (List ℕ) → ℕ → List (List ℕ) → List ℕ
 codedBytes u v pattern period tail = map byte (codedFrom (take period pattern) tail 0 start start (map isOne u) (map isOne v))
+
+-- what is left to lay of a block at clock s, with the registers a and b: u and v are its bits and the same interleaved
+unfoldable pub left : List (List ℕ) → List (List ℕ) → List ℕ → List ℕ → ℕ → Register → Register → List ℕ
+left pattern tail u v s a b = map byte (codedFrom pattern tail s a b (map isOne (drop s u)) (map isOne (drop s v)))

@@ -6,3 +6,4 @@ pub mod Joined
 pub mod Number
 pub mod Outputs
 pub mod Parity
+pub mod Together

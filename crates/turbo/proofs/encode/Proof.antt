@@ -1,103 +1,134 @@
--- Clock by clock, by the laws of AtClock. Assumes nothing.
-use mathlib.Core.Path.{_≡_, _∙_}
+-- Group by group, by the laws of AtGroup. Assumes nothing.
+use mathlib.Core.Path.{_≡_, refl, ap, _∙_}
 use Prim.Native.Nat.{_-_}
 use native.Mathlib.Omega.{arith}
 use lib.ListN.{length}
-use Rattle.bits.proofs.Bits.{bit-low}
-use Rattle.turbo.proofs.AtClock.{AtClock, at-start, place-below, clock-fits, at-next, ending-fits, at-end}
 use borrow.Author.Needs.{needs}
+use Rattle.turbo.specs.Together.{noPlaces}
+use Rattle.turbo.proofs.Number.{made-small}
+use Rattle.turbo.proofs.AtGroup.{Grouped, AtGroup, group-start, front, front-within, group-fits, group-next, rest-fits, rest-laid}
 use Rattle.turbo.proofs.encode.Statement.{statement}
 use Rattle.turbo.proofs.encode.Tie as tie
 
 abbrev Inv-loop : tie.InvT-loop
-Inv-loop u v period tail out₀ pattern at₀ a₀ b₀ c₀ s₀ s-end out at a b c s = (s-end ≡ length u) × AtClock u v pattern period tail out₀ out at a b c s
+Inv-loop u v pattern period tail out₀ n limit places count at₀ a₀ b₀ s₀ out at a b s = Grouped (length u) pattern period n limit places count × AtGroup u v pattern period tail out₀ out at a b s
 
 abbrev μ-loop : tie.MeasureT-loop
-μ-loop u v period tail out₀ pattern at₀ a₀ b₀ c₀ s₀ s-end out at a b c s = s-end - s
+μ-loop u v pattern period tail out₀ n limit places count at₀ a₀ b₀ s₀ out at a b s = limit - s
+
+clocks-requires : tie.Need-clocks-requires Inv-loop μ-loop
+clocks-requires c κs = search needs
+
+limit-requires : tie.Need-limit-requires Inv-loop μ-loop
+limit-requires c κs = search needs
+
+no-places-requires : tie.Need-no-places-requires Inv-loop μ-loop
+no-places-requires c κs = search needs
+
+slice-aggregate-lay-places : tie.Need-slice-aggregate-lay-places Inv-loop μ-loop
+slice-aggregate-lay-places c = search needs
+
+lay-places-requires : tie.Need-lay-places-requires Inv-loop μ-loop
+unfolding noPlaces
+lay-places-requires c κs =
+    let p = c .before .before .before .before .before .before .before .pre .0 in
+    let long : length noPlaces ≡ 96 = refl in
+    (p .some, p .few, c .before .before .before .clocks .ensures .0, p .pattern-flags, ap length (c .before .no-places .ensures) ∙ long)
 
 loop-holds : tie.Need-loop-holds Inv-loop μ-loop
 loop-holds c =
-    let a = c .before .before .before .args in
-    (search needs, at-start (a .u .now) (a .v .now) (a .t3) (a .period) (a .tail) (a .out .now) (c .before .before .before .pre .1))
+    let a = c .before .before .before .before .before .before .before .before .before .args in
+    let n = c .before .before .before .before .before .clocks .ensures in
+    let limit = c .before .before .before .before .limit .ensures in
+    let laid = c .before .lay-places .ensures in (
+      record {
+        long = search needs;
+        few = n .0;
+        whole = n .1;
+        enough = λ some. n .2 (limit .1 some);
+        limited = limit .0;
+        counted = front-within _ _ _ laid;
+        listed = front _ _ _ laid;
+      },
+      group-start (a .u .now) (a .v .now) (a .pattern) (a .period) (a .tail) (a .out .now) (c .before .before .before .before .before .before .before .before .before .pre .1),
+    )
 
-shared-slice-read-x : tie.Need-shared-slice-read-x Inv-loop μ-loop
-shared-slice-read-x c = search needs
+add-loop : tie.Need-add-loop Inv-loop μ-loop
+add-loop c = search needs
 
-shared-slice-read-y : tie.Need-shared-slice-read-y Inv-loop μ-loop
-shared-slice-read-y c = search needs
+sixes-requires : tie.Need-sixes-requires Inv-loop μ-loop
+sixes-requires c κs =
+    let p = c .before .before .before .before .before .before .before .before .before .before .before .pre .0 in
+    let l = c .before .loop in
+    let fits = c .loop-test .taken in
+    (l .inv .1 .kept-a, l .inv .1 .kept-b, omega (arith, fits, l .inv .0 .limited), omega (arith, fits, l .inv .0 .limited, p .same), p .bits-u, p .bits-v)
 
-mul-flags : tie.Need-mul-flags Inv-loop μ-loop
-mul-flags c =
-    let p = c .before .before .before .before .before .before .before .pre .0 in
-    let ten : length (c .before .before .before .before .before .before .before .args .t3) ≡ 10 = search needs in
-    omega (arith, place-below p ten (c .before .before .before .loop .inv .1), p .few)
+after-requires : tie.Need-after-requires Inv-loop μ-loop
+after-requires c κs =
+    let p = c .before .before .before .before .before .before .before .before .before .before .before .before .pre .0 in
+    let l = c .before .before .loop in
+    let fits = c .before .loop-test .taken in
+    (l .inv .1 .kept-a, omega (arith, fits, l .inv .0 .limited, p .same), p .bits-u, l .inv .0 .enough (omega (arith, fits)), l .inv .0 .few)
 
-array-copy-out-flags : tie.Need-array-copy-out-flags Inv-loop μ-loop
-array-copy-out-flags c =
-    let p = c .before .before .before .before .before .before .before .pre .0 in
-    let ten : length (c .before .before .before .before .before .before .before .args .t3) ≡ 10 = search needs in
-    omega (arith, place-below p ten (c .before .before .before .loop .inv .1), p .few)
-
-six-requires : tie.Need-six-requires Inv-loop μ-loop
-six-requires c κs =
-    let p = c .before .before .before .before .before .before .before .before .pre .0 in
-    let l = c .before .before .before .before .loop in
-    (l .inv .1 .small-a, l .inv .1 .small-b, bit-low _ (p .bits-u) (l .s), bit-low _ (p .bits-v) (l .s))
-
-lay-requires : tie.Need-lay-requires Inv-loop μ-loop
-lay-requires c κs =
-    let p = c .before .before .before .before .before .before .before .before .before .before .pre .0 in
-    let l = c .before .before .before .before .before .before .loop in
-    let ten : length (c .before .before .before .before .before .before .before .before .before .before .args .t3) ≡ 10 = search needs in
-    (p .pattern-flags (l .c), rw (c .before .six .ensures) (clock-fits p ten (l .inv .1) (omega arith)))
-
-next-requires : tie.Need-next-requires Inv-loop μ-loop
-next-requires c κs =
+after-requires-2 : tie.Need-after-requires-2 Inv-loop μ-loop
+after-requires-2 c κs =
     let p = c .before .before .before .before .before .before .before .before .before .before .before .before .before .pre .0 in
-    let l = c .before .before .before .before .before .before .before .before .before .loop in
-    (l .inv .1 .small-a, bit-low _ (p .bits-u) (l .s))
+    let l = c .before .before .before .loop in
+    let fits = c .before .before .loop-test .taken in
+    (l .inv .1 .kept-b, omega (arith, fits, l .inv .0 .limited, p .same), p .bits-v, l .inv .0 .enough (omega (arith, fits)), l .inv .0 .few)
 
-next-requires-2 : tie.Need-next-requires-2 Inv-loop μ-loop
-next-requires-2 c κs =
-    let p = c .before .before .before .before .before .before .before .before .before .before .before .before .before .before .pre .0 in
-    let l = c .before .before .before .before .before .before .before .before .before .before .loop in
-    (l .inv .1 .small-b, bit-low _ (p .bits-v) (l .s))
+slice-aggregate-lay-digits : tie.Need-slice-aggregate-lay-digits Inv-loop μ-loop
+slice-aggregate-lay-digits c = search needs
 
-next-clock-requires : tie.Need-next-clock-requires Inv-loop μ-loop
-next-clock-requires c κs =
-    let p = c .before .before .before .before .before .before .before .before .before .before .before .before .before .before .before .pre .0 in
-    let ten : length (c .before .before .before .before .before .before .before .before .before .before .before .before .before .before .before .args .t3) ≡ 10 = search needs in
-    (place-below p ten (c .before .before .before .before .before .before .before .before .before .before .before .loop .inv .1), p .few)
+lay-digits-requires : tie.Need-lay-digits-requires Inv-loop μ-loop
+lay-digits-requires c κs =
+    let p = c .before .before .before .before .before .before .before .before .before .before .before .before .before .before .before .before .pre .0 in
+    let l = c .before .before .before .before .before .before .loop in
+    let fits = c .before .before .before .before .before .loop-test .taken in
+    (l .inv .0 .counted, group-fits p (l .inv .0 .long) (l .inv .1) _ (l .inv .0 .few) (omega (arith, fits, l .inv .0 .limited)) _ (c .before .before .before .before .sixes .ensures) _ (l .inv .0 .listed))
 
 add-s : tie.Need-add-s Inv-loop μ-loop
-add-s c = search needs
+add-s c =
+    let l = c .before .before .before .before .before .before .before .before .before .loop in
+    omega (arith, c .before .before .before .before .before .before .before .before .loop-test .taken, l .inv .0 .few)
 
 loop-less : tie.Need-loop-less Inv-loop μ-loop
-loop-less c = search needs
+loop-less c =
+    let l = c .before .before .before .before .before .before .before .before .before .loop in
+    let fits = c .before .before .before .before .before .before .before .before .loop-test .taken in
+    omega (arith, fits, l .inv .0 .enough (omega (arith, fits)))
 
 loop-again : tie.Need-loop-again Inv-loop μ-loop
 loop-again c =
-    let p = c .before .before .before .before .before .before .before .before .before .before .before .before .before .before .before .before .pre .0 in
-    let l = c .before .before .before .before .before .before .before .before .before .before .before .before .loop in
-    let ten : length (c .before .before .before .before .before .before .before .before .before .before .before .before .before .before .before .before .args .t3) ≡ 10 = search needs in
-    let laid = rw (c .before .before .before .before .before .before .before .six .ensures) at (c .before .before .before .before .before .lay .ensures) in
-    (l .inv .0, at-next p ten (l .inv .1) (omega arith) laid (c .before .before .next .ensures) (c .before .next2 .ensures) (c .next-clock .ensures))
+    let p = c .before .before .before .before .before .before .before .before .before .before .before .before .before .before .before .before .before .before .before .pre .0 in
+    let l = c .before .before .before .before .before .before .before .before .before .loop in
+    let fits = c .before .before .before .before .before .before .before .before .loop-test .taken in
+    let group = group-next p (l .inv .0 .long) (l .inv .1) _ (l .inv .0 .few) (omega (arith, fits, l .inv .0 .limited)) _ (c .before .before .before .before .before .before .before .sixes .ensures) _ (l .inv .0 .listed) (l .inv .0 .whole) in
+    (l .inv .0, group (c .before .before .lay-digits .ensures) (c .before .before .before .before .before .before .after .ensures) (c .before .before .before .before .before .after2 .ensures))
 
-end-requires : tie.Need-end-requires Inv-loop μ-loop
-end-requires c κs =
-    let p = c .before .before .before .before .before .before .pre .0 in
-    let i = c .before .before .loop .inv .1 in
-    let ten : length (c .before .before .before .before .before .before .args .t3) ≡ 10 = search needs in
-    ((i .small-a, i .small-b, p .tail-flags), ending-fits p ten i (omega arith))
+small-requires : tie.Need-small-requires Inv-loop μ-loop
+small-requires c κs = c .before .loop .inv .1 .kept-a
+
+small-requires-2 : tie.Need-small-requires-2 Inv-loop μ-loop
+small-requires-2 c κs = c .before .before .loop .inv .1 .kept-b
+
+lay-rest-requires : tie.Need-lay-rest-requires Inv-loop μ-loop
+lay-rest-requires c κs =
+    let p = c .before .before .before .before .before .before .before .before .before .before .before .before .before .before .pre .0 in
+    let l = c .before .before .before .before .loop .inv in
+    let i = l .1 in
+    let a = c .before .before .small .ensures in
+    let b = c .before .small2 .ensures in
+    (p, ((i .within, i .first, made-small _ a, made-small _ b), rest-fits p (l .0 .long) i a b))
 
 same-length : tie.Need-same-length Inv-loop μ-loop
-same-length c = c .before .before .end .kept .1 .1 .1 .1 .0 ∙ c .before .before .before .before .before .loop .inv .1 .laying .long
+same-length c = c .before .before .lay-rest .kept .1 .1 .1 .1 .1 .1 .1 .1 .1 .0 ∙ c .before .before .before .before .before .before .before .loop .inv .1 .laying .long
 
 returns : tie.Need-returns Inv-loop μ-loop
 returns c =
-    let p = c .before .before .before .before .before .before .before .before .before .pre .0 in
-    let ten : length (c .before .before .before .before .before .before .before .before .before .args .t3) ≡ 10 = search needs in
-    at-end p ten (c .before .before .before .before .before .loop .inv .1) (omega arith) (c .before .before .end .ensures)
+    let p = c .before .before .before .before .before .before .before .before .before .before .before .before .before .before .before .before .before .pre .0 in
+    let l = c .before .before .before .before .before .before .before .loop .inv in
+    rest-laid p (l .0 .long) (l .1) (c .before .before .before .before .before .small .ensures) (c .before .before .before .before .small2 .ensures) (c .before .before .lay-rest .ensures)
 
 pub encode-spec : {M : Type 1} → statement M
 encode-spec =
@@ -105,19 +136,23 @@ encode-spec =
     (tie.spec
     Inv-loop
     μ-loop
+    clocks-requires
+    limit-requires
+    no-places-requires
+    slice-aggregate-lay-places
+    lay-places-requires
     loop-holds
-    shared-slice-read-x
-    shared-slice-read-y
-    mul-flags
-    array-copy-out-flags
-    six-requires
-    lay-requires
-    next-requires
-    next-requires-2
-    next-clock-requires
+    add-loop
+    sixes-requires
+    after-requires
+    after-requires-2
+    slice-aggregate-lay-digits
+    lay-digits-requires
     add-s
     loop-less
     loop-again
-    end-requires
+    small-requires
+    small-requires-2
+    lay-rest-requires
     same-length
     returns)

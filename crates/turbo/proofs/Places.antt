@@ -1,0 +1,62 @@
+-- The places that pass in a group, clock by clock, and what stands at them, place by place.
+-- Assumes nothing.
+use mathlib.Core.Path.{_≡_, refl}
+use mathlib.Core.List.{List, [], _∷_, _++_, map}
+use Prim.Native.Nat.{ℕ, zero, suc, _+_, _-_, _*_, _%_, _≤_, _<_, zero-le}
+use native.Mathlib.Nat.{sub-zero}
+use native.Mathlib.Numerals.{add-one}
+use native.Mathlib.Omega.{arith}
+use lib.ListN.{length, getD, take, drop, replicate, length-append, length-replicate, length-take, drop-of-length-le}
+use lib.Seq.{drop-cons, getD-take, length-take-le}
+use Rattle.links.specs.Patterns.{flagsAt}
+use Rattle.turbo.specs.Encode.{AtMostTwice, AllAtMostTwice}
+use Rattle.turbo.specs.Coded.{passed}
+use Rattle.turbo.specs.Together.{passedFrom, placesOf, placesFrom}
+use Rattle.turbo.proofs.Passing.{flags-at}
+
+-- how many they are at most
+length-twice : {A : Type 0} (flags : List ℕ) (xs : List A) → AtMostTwice flags → length (passed flags xs) ≤ 2 * length xs
+unfolding passed
+length-twice [] xs h = zero-le
+length-twice (flag ∷ flags) [] h = zero-le
+length-twice (flag ∷ flags) (x ∷ xs) h =
+    omega (arith, length-append (replicate flag x) (passed flags xs), length-replicate flag x, h 0, length-twice flags xs (λ i. h (suc i)))
+
+length-places : (pattern : List (List ℕ)) → ((s : ℕ) → AtMostTwice (flagsAt pattern s)) → (s n : ℕ) → length (passedFrom pattern s (placesFrom s n)) ≤ 12 * n
+unfolding passedFrom placesFrom placesOf
+length-places pattern h s zero = zero-le
+length-places pattern h s (suc n) =
+    omega (
+      arith,
+      length-append (passed (flagsAt pattern s) (placesOf s)) (passedFrom pattern (suc s) (placesFrom (suc s) n)),
+      length-twice (flagsAt pattern s) (placesOf s) (h s),
+      length-places pattern h (suc s) n,
+    )
+
+-- ---- the places of a group of n clocks, clock by clock
+abbrev pub placesLeft : List (List ℕ) → ℕ → ℕ → ℕ → List ℕ
+placesLeft pattern period n c = passedFrom (take period pattern) c (placesFrom c (n - c))
+
+module _ (pattern : List (List ℕ)) (period n : ℕ) (some : 0 < period) (enough : period ≤ length pattern) where
+  pub places-room : AllAtMostTwice pattern → n ≤ 8 → length (placesLeft pattern period n 0) ≤ 96
+  places-room h l =
+      let flags : (s : ℕ) → AtMostTwice (flagsAt (take period pattern) s) = λ s. rw (flags-at pattern period (s % period) s some enough refl) (h (s % period)) in
+      rw sub-zero (omega (arith, length-places (take period pattern) flags 0 n))
+
+  pub places-more : (c : ℕ) → c < n → placesLeft pattern period n c ≡ passed (getD pattern (c % period) []) (placesOf c) ++ placesLeft pattern period n (c + 1)
+  unfolding passedFrom placesFrom
+  places-more c h =
+      let more : n - c ≡ suc (n - (c + 1)) = omega arith in
+      rw (more, add-one, flags-at pattern period (c % period) c some enough refl)
+
+  pub places-done : (c : ℕ) → n ≤ c → placesLeft pattern period n c ≡ []
+  unfolding passedFrom placesFrom
+  places-done c h = let none : n - c ≡ 0 = omega arith in rw none
+
+-- ---- what stands at places, place by place
+module _ (f : ℕ → ℕ) (places : List ℕ) (count i : ℕ) where
+  pub at-more : i < count → count ≤ length places → map f (drop i (take count places)) ≡ f (getD places i 0) ∷ map f (drop (i + 1) (take count places))
+  at-more h l = rw (drop-cons (take count places) i 0 (omega (arith, length-take-le count places l)), getD-take count places i 0 h, add-one)
+
+  pub at-done : count ≤ i → map f (drop i (take count places)) ≡ []
+  at-done h = rw (drop-of-length-le (take count places) {i = i} (omega (arith, length-take count places)))
