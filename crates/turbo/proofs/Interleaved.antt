@@ -15,7 +15,7 @@ use Rattle.bits.specs.Bits.{isOne, byte, allBits}
 use Rattle.bits.proofs.Bits.{byte-at}
 use Rattle.links.specs.declared.Row.{Row}
 use Rattle.links.specs.Good.{goodRow}
-use Rattle.links.proofs.Facts.{prime, sizes, block-is}
+use Rattle.links.proofs.Facts.{sizes, block-is}
 use Rattle.turbo.specs.Interleaver.{position, interleavedFrom, interleaved}
 use Rattle.turbo.proofs.Permutation.{tFrom, digitsPlace, position-clock-from, position-in-range}
 

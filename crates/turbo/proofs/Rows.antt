@@ -7,7 +7,7 @@ use Prim.Native.Nat.{ℕ, zero, suc}
 use native.Mathlib.Omega.{arith}
 use lib.Dec.{T, eqb, eqb→eq}
 use lib.ListN.{length}
-use Rattle.lists.proofs.Line.{both-left, both-right}
+use Rattle.lists.proofs.Tests.{both-left, both-right}
 use Rattle.turbo.specs.Encoder.{Register}
 
 -- f holds of both bits

@@ -9,7 +9,7 @@ use mir.Syntax.{w32}
 use borrow.Author.Needs.{needs}
 use Rattle.lists.specs.Over.{Laying}
 use Rattle.lists.proofs.Over.{fits, done}
-use Rattle.links.proofs.Facts.{prime, sizes}
+use Rattle.links.proofs.Facts.{sizes}
 use Rattle.turbo.proofs.Interleaved.{place-code, row-small, pair-small, inputs, pairsFrom, pairs-start, pairs-done, pairs-more, pairs-next, pairs-room, place-inside}
 use Rattle.turbo.proofs.interleaver.lay_row.Statement.{statement}
 use Rattle.turbo.proofs.interleaver.lay_row.Tie as tie
