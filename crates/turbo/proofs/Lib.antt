@@ -4,6 +4,7 @@ pub mod AtGroup
 pub mod Cases
 pub mod Digits
 pub mod Eights
+pub mod Groups
 pub mod Interleaved
 pub mod Joined
 pub mod Left

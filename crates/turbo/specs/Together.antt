@@ -1,12 +1,21 @@
 -- The clocks of a group taken together: what they put out, and what the pattern passes on of it.
-use mathlib.Core.Bool.{Bool}
+use mathlib.Core.Bool.{Bool, cond}
 use mathlib.Core.List.{List, [], _∷_, _++_}
 use Prim.Native.Nat.{ℕ, zero, suc, _+_, _*_, _/_, _%_, _^_}
+use lib.Dec.{ltb}
 use lib.ListN.{replicate}
 use Rattle.bits.specs.Bits.{byte}
 use Rattle.links.specs.Patterns.{flagsAt}
 use Rattle.turbo.specs.Encoder.{Register, next}
 use Rattle.turbo.specs.Coded.{six, passed}
+
+-- how many clocks make a group: the whole periods that eight clocks hold
+abbrev pub groupClocks : ℕ → ℕ
+groupClocks period = period * (8 / period)
+
+-- how many of k clocks may go in groups of n: none where a group has none
+abbrev pub inGroups : ℕ → ℕ → ℕ
+inGroups k n = cond (ltb 0 n) k 0
 
 -- the six of each clock
 unfoldable pub sixes : Register → Register → List Bool → List Bool → List (List Bool)

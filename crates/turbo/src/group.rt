@@ -5,26 +5,26 @@ use crate::eight::three;
 ghost use mathlib.Core.Path.{_≡_};
 ghost use mathlib.Core.Bool.{true};
 ghost use mathlib.Core.List.{map};
-ghost use Prim.Native.Nat.{_+_, _%_, _≤_, _<_};
+ghost use Prim.Native.Nat.{_+_, _≤_, _<_};
 ghost use lib.ListN.{length, take};
 ghost use Rattle.lists.specs.Over.{Room, Lays};
 ghost use Rattle.bits.specs.Bits.{allBits};
 ghost use Rattle.turbo.specs.Encode.{AllAtMostTwice};
 ghost use Rattle.turbo.specs.Joined.{joined, eightAt};
 ghost use Rattle.turbo.specs.Number.{registerIn, Kept};
-ghost use Rattle.turbo.specs.Together.{sixes, passedFrom, digits, digit, placesOf, placesFrom, noPlaces};
+ghost use Rattle.turbo.specs.Together.{groupClocks, inGroups, sixes, passedFrom, digits, digit, placesOf, placesFrom, noPlaces};
 
 // How many clocks make a group: the whole periods that eight clocks hold. A longer pattern makes none.
 pub fn clocks(period: usize) -> usize
     requires { ⌜ (0 < period) × (period ≤ 10) ⌝ }
-    ensures { λ r. ⌜ (r ≤ 8) × (r % period ≡ 0) × (0 < r → 3 ≤ r) ⌝ }
+    ensures { λ r. ⌜ r ≡ groupClocks period ⌝ }
 {
     period * (8 / period)
 }
 
 // How many of k clocks may go in groups of n.
 pub fn limit(k: usize, n: usize) -> usize
-    ensures { λ r. ⌜ (r ≤ k) × (0 < r → 0 < n) ⌝ }
+    ensures { λ r. ⌜ r ≡ inGroups k n ⌝ }
 {
     if n > 0 { k } else { 0 }
 }

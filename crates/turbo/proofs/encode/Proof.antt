@@ -5,6 +5,7 @@ use native.Mathlib.Omega.{arith}
 use lib.ListN.{length}
 use borrow.Author.Needs.{needs}
 use Rattle.turbo.specs.Together.{noPlaces}
+use Rattle.turbo.proofs.Groups.{group-few, group-whole, group-enough, in-groups-most, in-groups-some}
 use Rattle.turbo.proofs.Number.{made-small}
 use Rattle.turbo.proofs.AtGroup.{Grouped, AtGroup, group-start, front, front-within, group-fits, group-next, rest-fits, rest-laid}
 use Rattle.turbo.proofs.encode.Statement.{statement}
@@ -33,20 +34,22 @@ unfolding noPlaces
 lay-places-requires c κs =
     let p = c .before .before .before .before .before .before .before .pre .0 in
     let long : length noPlaces ≡ 96 = refl in
-    (p .some, p .few, c .before .before .before .clocks .ensures .0, p .pattern-flags, ap length (c .before .no-places .ensures) ∙ long)
+    (p .some, p .few, rw (c .before .before .before .clocks .ensures) (group-few _ (p .few)), p .pattern-flags, ap length (c .before .no-places .ensures) ∙ long)
 
 loop-holds : tie.Need-loop-holds Inv-loop μ-loop
 loop-holds c =
     let a = c .before .before .before .before .before .before .before .before .before .args in
-    let n = c .before .before .before .before .before .clocks .ensures in
+    let most = c .before .before .before .before .before .before .before .before .before .pre .0 .few in
+    let clocks = c .before .before .before .before .before .clocks in
+    let n = clocks .ensures in
     let limit = c .before .before .before .before .limit .ensures in
     let laid = c .before .lay-places .ensures in (
       record {
         long = search needs;
-        few = n .0;
-        whole = n .1;
-        enough = λ some. n .2 (limit .1 some);
-        limited = limit .0;
+        few = rw n (group-few (a .period) most);
+        whole = rw n (group-whole (a .period) most);
+        enough = λ some. rw n (group-enough (a .period) most (omega (arith, n, in-groups-some (length (a .u .now)) (clocks .result) limit some)));
+        limited = in-groups-most (length (a .u .now)) (clocks .result) limit;
         counted = front-within _ _ _ laid;
         listed = front _ _ _ laid;
       },
