@@ -2,13 +2,12 @@
 -- Assumes nothing.
 use mathlib.Core.Path.{_≡_, refl, ap, _∙_}
 use mathlib.Core.Bool.{Bool, true, false}
-use mathlib.Core.List.{[], _∷_}
 use Prim.Native.Nat.{ℕ, _+_, _*_, _≤_, _<_}
 use native.Mathlib.Omega.{arith}
 use lib.Dec.{T, eqb, eqb→eq}
 use Rattle.lists.proofs.Line.{upto, square}
 use Rattle.bits.specs.Bits.{isOne, byte}
-use Rattle.bits.proofs.Bits.{byte-lt, bits-bytes}
+use Rattle.bits.proofs.Bits.{byte-lt, isOne-byte}
 use Rattle.turbo.specs.Encoder.{Register, start, feedback, fed, next}
 use Rattle.turbo.specs.Number.{registerOf, numberOf}
 
@@ -50,7 +49,7 @@ register-start = refl
 
 -- a bit that the code made
 pub is-one : (b : Bool) {u : ℕ} → u ≡ byte b → isOne u ≡ b
-is-one b e = cc (bits-bytes (b ∷ []))
+is-one b e = ap isOne e ∙ isOne-byte b
 
 -- what a register feeds back, and the register after a clock that is fed that
 pub feedback-small : (r : ℕ) {u : ℕ} → u ≡ byte (feedback (registerOf r)) → u ≤ 1

@@ -6,8 +6,9 @@ use Prim.Native.Nat.{ℕ, zero, suc, _+_, _-_, _*_, _%_, _≤_, _<_, zero-le}
 use native.Mathlib.Nat.{sub-zero}
 use native.Mathlib.Numerals.{add-one}
 use native.Mathlib.Omega.{arith}
-use lib.ListN.{length, getD, take, drop, replicate, length-append, length-replicate, length-take, drop-of-length-le}
-use lib.Seq.{drop-cons, getD-take, length-take-le}
+use lib.ListN.{length, getD, take, drop, replicate, length-append, length-replicate, length-take}
+use lib.Seq.{getD-take, length-take-le}
+use Rattle.lists.proofs.Parts.{map-more, map-done}
 use Rattle.links.specs.Patterns.{flagsAt}
 use Rattle.turbo.specs.Encode.{AtMostTwice, AllAtMostTwice}
 use Rattle.turbo.specs.Coded.{passed}
@@ -56,7 +57,7 @@ module _ (pattern : List (List ℕ)) (period n : ℕ) (some : 0 < period) (enoug
 -- ---- what stands at places, place by place
 module _ (f : ℕ → ℕ) (places : List ℕ) (count i : ℕ) where
   pub at-more : i < count → count ≤ length places → map f (drop i (take count places)) ≡ f (getD places i 0) ∷ map f (drop (i + 1) (take count places))
-  at-more h l = rw (drop-cons (take count places) i 0 (omega (arith, length-take-le count places l)), getD-take count places i 0 h, add-one)
+  at-more h l = rw (← getD-take count places i 0 h) (map-more f (take count places) 0 i (omega (arith, length-take-le count places l)))
 
   pub at-done : count ≤ i → map f (drop i (take count places)) ≡ []
-  at-done h = rw (drop-of-length-le (take count places) {i = i} (omega (arith, length-take count places)))
+  at-done h = map-done f (take count places) i (omega (arith, length-take count places))

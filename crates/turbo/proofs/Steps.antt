@@ -1,4 +1,4 @@
--- The steps of π in document 01's letters, and how large each gets on a good row.
+-- The steps of π in document 01's letters.
 -- Assumes nothing.
 use mathlib.Core.Path.{_≡_}
 use Prim.Native.Nat.{ℕ, _+_, _-_, _*_, _/_, _%_}
@@ -7,7 +7,6 @@ use Rattle.links.specs.declared.Row.{Row}
 use Rattle.links.proofs.Facts.{prime}
 use Rattle.turbo.specs.Interleaver.{position}
 
--- a factor is at most the product
 module _ (row : Row) (s : ℕ) where
   abbrev pub mOf : ℕ
   mOf = (s - 1) % 2
