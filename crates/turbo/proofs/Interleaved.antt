@@ -19,7 +19,7 @@ use Rattle.links.proofs.Facts.{sizes, block-is}
 use Rattle.turbo.specs.Interleaver.{position, interleavedFrom, interleaved}
 use Rattle.turbo.proofs.Permutation.{tFrom, digitsPlace, position-clock-from, position-in-range}
 
-pub length-from : (row : Row) (u : List Bool) (s n : ℕ) → length (interleavedFrom row u s n) ≡ n
+length-from : (row : Row) (u : List Bool) (s n : ℕ) → length (interleavedFrom row u s n) ≡ n
 unfolding interleavedFrom
 length-from row u s zero = refl
 length-from row u s (suc n) = ap suc (length-from row u (suc s) n)
@@ -45,6 +45,9 @@ module _ (row : Row) (u : List ℕ) where
   -- n inputs from the s-th on, counted from 0
   abbrev pub inputs : ℕ → ℕ → List ℕ
   inputs s n = map byte (interleavedFrom row (map isOne u) (s + 1) n)
+
+  length-inputs : (s n : ℕ) → length (inputs s n) ≡ n
+  length-inputs s n = length-map (interleavedFrom row (map isOne u) (s + 1) n) byte ∙ length-from row (map isOne u) (s + 1) n
 
   -- those of row i from pair j on
   abbrev pub pairsFrom : ℕ → ℕ → List ℕ
@@ -108,7 +111,7 @@ pub pairs-start : (row : Row) (u : List ℕ) → T (goodRow row) → (i : ℕ) �
 pairs-start row u good i hi old long =
     let from = 2 * (i * row .k2) in
     let goal = inputs row u from (2 * row .k2) in
-    let size = length-map (interleavedFrom row (map isOne u) (from + 1) (2 * row .k2)) byte ∙ length-from row (map isOne u) (from + 1) (2 * row .k2) in
+    let size = length-inputs row u from (2 * row .k2) in
     let last = digits-lt {q = i} {m = row .k1 / 2} {r = row .k2 - 1} {c = row .k2} hi (omega (arith, sizes row good .width)) in
     let at : 2 * (i * row .k2 + 0) ≡ from = omega arith in
     subst (λ (at : ℕ). Laying old from goal old at (pairsFrom row u i 0)) (sym at)
@@ -153,7 +156,7 @@ module _ (row : Row) (u : List ℕ) where
     pub rows-next : (i : ℕ) → i < row .k1 / 2 → {old v v' : List ℕ} → Rows old v i → v' ≡ over (2 * (i * row .k2)) (inputs row u (2 * (i * row .k2)) (2 * row .k2)) v → Rows old v' (i + 1)
     rows-next i h w e =
         let from = 2 * (i * row .k2) in
-        let size = length-map (interleavedFrom row (map isOne u) (from + 1) (2 * row .k2)) byte ∙ length-from row (map isOne u) (from + 1) (2 * row .k2) in
+        let size = length-inputs row u from (2 * row .k2) in
         more-piece (inputs row u from (2 * row .k2)) (rowsFrom (i + 1)) w (rows-more i h) (omega (arith, next-row i h, size), e)
 
     pub rows-done : (i : ℕ) → row .k1 / 2 ≤ i → rowsFrom i ≡ []
@@ -164,6 +167,6 @@ module _ (row : Row) (u : List ℕ) where
   rows-start old long =
       let goal = map byte (interleaved row (map isOne u)) in
       let zero-at : 2 * (0 * row .k2) ≡ 0 = omega arith in
-      let size = length-map (interleaved row (map isOne u)) byte ∙ length-interleaved row (map isOne u) in
+      let size = length-inputs row u 0 (row .k) in
       subst (λ (at : ℕ). Laying old 0 goal old at (inputs row u at (row .k - at))) (sym zero-at)
       (subst (λ (n : ℕ). Laying old 0 goal old 0 (inputs row u 0 n)) (sym (sub-zero (row .k))) (start old 0 goal (omega (arith, size, long))))
