@@ -24,6 +24,7 @@ clockBytes u v pattern a b c s = passed (getD pattern c []) (map byte (six (regi
 module _ (u v : List ℕ) (pattern : List (List ℕ)) (period : ℕ) (tail : List (List ℕ)) where
   -- at is the place, a and b the registers, c the clock's place in the pattern; goal is being laid over old from `from` on
   pub record AtClock (old : List ℕ) (from : ℕ) (goal out : List ℕ) (at a b c s : ℕ) : Type 0 where
+    pub ten : length pattern ≡ 10
     pub within : s ≤ length u
     pub place : c ≡ s % period
     pub small-a : a < 8
@@ -31,7 +32,7 @@ module _ (u v : List ℕ) (pattern : List (List ℕ)) (period : ℕ) (tail : Lis
     pub laying : Laying old from goal out at (left (take period pattern) tail u v s (registerOf a) (registerOf b))
 
 module _ {u v : List ℕ} {pattern : List (List ℕ)} {period : ℕ} {tail : List (List ℕ)} {old : List ℕ} {from : ℕ} {goal out : List ℕ} {at a b c s : ℕ}
-    (ready : Ready u v pattern period tail) (ten : length pattern ≡ 10) (i : AtClock u v pattern period tail old from goal out at a b c s) where
+    (ready : Ready u v pattern period tail) (i : AtClock u v pattern period tail old from goal out at a b c s) where
   pub place-below : c < period
   place-below = rw (i .place) (mod-lt s (ready .some))
 
@@ -40,7 +41,7 @@ module _ {u v : List ℕ} {pattern : List (List ℕ)} {period : ℕ} {tail : Lis
       → left (take period pattern) tail u v s (registerOf a) (registerOf b)
       ≡ clockBytes u v pattern a b c s ++ left (take period pattern) tail u v (s + 1) (next (registerOf a) (isOne (getD u s 0))) (next (registerOf b) (isOne (getD v s 0)))
   more h =
-      rw (← flags-at pattern period c s (ready .some) (omega (arith, ready .few, ten)) (i .place))
+      rw (← flags-at pattern period c s (ready .some) (omega (arith, ready .few, i .ten)) (i .place))
       (left-more (take period pattern) tail u v s (registerOf a) (registerOf b) h (omega (arith, ready .same)))
 
   pub clock-fits : s < length u → Room at (clockBytes u v pattern a b c s) out
@@ -52,6 +53,7 @@ module _ {u v : List ℕ} {pattern : List (List ℕ)} {period : ℕ} {tail : Lis
       → AtClock u v pattern period tail old from goal out' at' a' b' c' (s + 1)
   at-next h laid ea eb ec =
       record {
+        ten = i .ten;
         within = omega arith;
         place = ec ∙ ap (λ (n : ℕ). (n + 1) % period) (i .place) ∙ mod-add-mod s period 1;
         small-a = made-small _ ea;

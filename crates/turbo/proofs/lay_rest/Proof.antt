@@ -22,7 +22,7 @@ abbrev μ-loop : tie.MeasureT-loop
 loop-holds : tie.Need-loop-holds Inv-loop μ-loop
 loop-holds c =
     let p = c .before .before .before .pre in
-    (search needs, record { within = p .1 .0 .0; place = sym (p .1 .0 .1); small-a = p .1 .0 .2; small-b = p .1 .0 .3; laying = start _ _ _ (p .1 .1) })
+    (search needs, record { ten = search needs; within = p .1 .0 .0; place = sym (p .1 .0 .1); small-a = p .1 .0 .2; small-b = p .1 .0 .3; laying = start _ _ _ (p .1 .1) })
 
 shared-slice-read-x : tie.Need-shared-slice-read-x Inv-loop μ-loop
 shared-slice-read-x c = search needs
@@ -33,14 +33,12 @@ shared-slice-read-y c = search needs
 mul-flags : tie.Need-mul-flags Inv-loop μ-loop
 mul-flags c =
     let p = c .before .before .before .before .before .before .before .pre .0 in
-    let ten : length (c .before .before .before .before .before .before .before .args .t3) ≡ 10 = search needs in
-    omega (arith, place-below p ten (c .before .before .before .loop .inv .1), p .few)
+    omega (arith, place-below p (c .before .before .before .loop .inv .1), p .few)
 
 array-copy-out-flags : tie.Need-array-copy-out-flags Inv-loop μ-loop
 array-copy-out-flags c =
     let p = c .before .before .before .before .before .before .before .pre .0 in
-    let ten : length (c .before .before .before .before .before .before .before .args .t3) ≡ 10 = search needs in
-    omega (arith, place-below p ten (c .before .before .before .loop .inv .1), p .few)
+    omega (arith, place-below p (c .before .before .before .loop .inv .1), p .few)
 
 six-requires : tie.Need-six-requires Inv-loop μ-loop
 six-requires c κs =
@@ -52,8 +50,7 @@ lay-requires : tie.Need-lay-requires Inv-loop μ-loop
 lay-requires c κs =
     let p = c .before .before .before .before .before .before .before .before .before .before .pre .0 in
     let l = c .before .before .before .before .before .before .loop in
-    let ten : length (c .before .before .before .before .before .before .before .before .before .before .args .t3) ≡ 10 = search needs in
-    (p .pattern-flags (l .c), rw (c .before .six .ensures) (clock-fits p ten (l .inv .1) (omega arith)))
+    (p .pattern-flags (l .c), rw (c .before .six .ensures) (clock-fits p (l .inv .1) (omega arith)))
 
 next-requires : tie.Need-next-requires Inv-loop μ-loop
 next-requires c κs =
@@ -70,8 +67,7 @@ next-requires-2 c κs =
 next-clock-requires : tie.Need-next-clock-requires Inv-loop μ-loop
 next-clock-requires c κs =
     let p = c .before .before .before .before .before .before .before .before .before .before .before .before .before .before .before .pre .0 in
-    let ten : length (c .before .before .before .before .before .before .before .before .before .before .before .before .before .before .before .args .t3) ≡ 10 = search needs in
-    (place-below p ten (c .before .before .before .before .before .before .before .before .before .before .before .loop .inv .1), p .few)
+    (place-below p (c .before .before .before .before .before .before .before .before .before .before .before .loop .inv .1), p .few)
 
 add-s : tie.Need-add-s Inv-loop μ-loop
 add-s c = search needs
@@ -83,16 +79,14 @@ loop-again : tie.Need-loop-again Inv-loop μ-loop
 loop-again c =
     let p = c .before .before .before .before .before .before .before .before .before .before .before .before .before .before .before .before .pre .0 in
     let l = c .before .before .before .before .before .before .before .before .before .before .before .before .loop in
-    let ten : length (c .before .before .before .before .before .before .before .before .before .before .before .before .before .before .before .before .args .t3) ≡ 10 = search needs in
     let laid = rw (c .before .before .before .before .before .before .before .six .ensures) at (c .before .before .before .before .before .lay .ensures) in
-    (l .inv .0, at-next p ten (l .inv .1) (omega arith) laid (c .before .before .next .ensures) (c .before .next2 .ensures) (c .next-clock .ensures))
+    (l .inv .0, at-next p (l .inv .1) (omega arith) laid (c .before .before .next .ensures) (c .before .next2 .ensures) (c .next-clock .ensures))
 
 end-requires : tie.Need-end-requires Inv-loop μ-loop
 end-requires c κs =
     let p = c .before .before .before .before .before .before .pre .0 in
     let i = c .before .before .loop .inv .1 in
-    let ten : length (c .before .before .before .before .before .before .args .t3) ≡ 10 = search needs in
-    ((i .small-a, i .small-b, p .tail-flags), ending-fits p ten i (omega arith))
+    ((i .small-a, i .small-b, p .tail-flags), ending-fits p i (omega arith))
 
 same-length : tie.Need-same-length Inv-loop μ-loop
 same-length c = c .before .before .end .kept .1 .1 .1 .1 .0 ∙ c .before .before .before .before .before .loop .inv .1 .laying .long
@@ -100,8 +94,7 @@ same-length c = c .before .before .end .kept .1 .1 .1 .1 .0 ∙ c .before .befor
 returns : tie.Need-returns Inv-loop μ-loop
 returns c =
     let p = c .before .before .before .before .before .before .before .before .before .pre .0 in
-    let ten : length (c .before .before .before .before .before .before .before .before .before .args .t3) ≡ 10 = search needs in
-    at-end p ten (c .before .before .before .before .before .loop .inv .1) (omega arith) (c .before .before .end .ensures)
+    at-end p (c .before .before .before .before .before .loop .inv .1) (omega arith) (c .before .before .end .ensures)
 
 pub lay-rest-spec : {M : Type 1} → statement M
 lay-rest-spec =

@@ -1,9 +1,9 @@
 -- Pair by pair: those from j on are left to lay. Assumes nothing.
-use mathlib.Core.Path.{_∙_}
+use mathlib.Core.Path.{_≡_, _∙_}
 use Prim.Native.Nat.{_^_, _<_, ℕ, _+_, _-_, _*_, _≤_}
 use native.Mathlib.Nat.{mod-lt}
 use native.Mathlib.Omega.{arith}
-use lib.ListN.{getD, length-set}
+use lib.ListN.{length, getD, length-set}
 use mir.Val.{Fits}
 use mir.Syntax.{w32}
 use borrow.Author.Needs.{needs}
@@ -11,6 +11,7 @@ use Rattle.lists.specs.Over.{Laying}
 use Rattle.lists.proofs.Over.{fits, done}
 use Rattle.links.proofs.Facts.{sizes}
 use Rattle.turbo.proofs.Interleaved.{place-code, row-small, pair-small, inputs, pairsFrom, pairs-start, pairs-done, pairs-more, pairs-next, pairs-room, place-inside}
+use Rattle.turbo.proofs.Permutation.{digitsPlace}
 use Rattle.turbo.proofs.interleaver.lay_row.Statement.{statement}
 use Rattle.turbo.proofs.interleaver.lay_row.Tie as tie
 
@@ -88,15 +89,20 @@ place-requires c κs =
     let st = c .before .before .before .before .before .before .before in
     (st .pre .0, mod-lt _ (sizes (st .args .row) (st .pre .0) .half), search (small (c .before .before .before .before)), search needs, search needs)
 
-sub-v : tie.Need-sub-v Inv-loop μ-loop
-sub-v c =
+-- the first place of the pair, and that it is one of the block
+first-is : (c : tie.After-place Inv-loop μ-loop) → c .place .result ≡ digitsPlace (c .before .before .before .before .before .before .before .before .args .row) 0 (c .before .before .before .before .before .before .before .before .args .i) (c .before .before .loop .j)
+first-is c = c .place .ensures ∙ place-code (c .before .before .before .before .before .before .before .before .args .row) 0 (c .before .before .before .before .before .before .before .before .args .i) (c .before .before .loop .j)
+
+first-inside : (c : tie.After-place Inv-loop μ-loop) → (1 ≤ c .place .result) × (c .place .result ≤ length (c .before .before .before .before .before .before .before .before .args .u .now))
+first-inside c =
     let st = c .before .before .before .before .before .before .before .before in
-    omega (arith, c .place .ensures, place-inside (st .args .row) (st .args .u .now) (st .pre .0) (st .pre .2) (st .pre .4) 0 (st .args .i) (c .before .before .loop .j) (omega arith) (omega arith), place-code (st .args .row) 0 (st .args .i) (c .before .before .loop .j))
+    rw (first-is c) (place-inside (st .args .row) (st .args .u .now) (st .pre .0) (st .pre .2) (st .pre .4) 0 (st .args .i) (c .before .before .loop .j) (omega arith) (omega arith))
+
+sub-v : tie.Need-sub-v Inv-loop μ-loop
+sub-v c = first-inside c .0
 
 shared-slice-read-v : tie.Need-shared-slice-read-v Inv-loop μ-loop
-shared-slice-read-v c =
-    let st = c .before .before .before .before .before .before .before .before .before in
-    omega (arith, c .before .place .ensures, place-inside (st .args .row) (st .args .u .now) (st .pre .0) (st .pre .2) (st .pre .4) 0 (st .args .i) (c .before .before .before .loop .j) (omega arith) (omega arith), place-code (st .args .row) 0 (st .args .i) (c .before .before .before .loop .j))
+shared-slice-read-v c = omega (arith, first-inside (c .before))
 
 slice-write-v : tie.Need-slice-write-v Inv-loop μ-loop
 slice-write-v c =
@@ -109,15 +115,20 @@ place-requires-2 c κs =
     let st = c .before .before .before .before .before .before .before .before .before in
     (st .pre .0, mod-lt _ (sizes (st .args .row) (st .pre .0) .half), search (small (c .before .before .before .before .before .before)), search needs, search needs)
 
-sub-v-2 : tie.Need-sub-v-2 Inv-loop μ-loop
-sub-v-2 c =
+-- the second
+second-is : (c : tie.After-place2 Inv-loop μ-loop) → c .place2 .result ≡ digitsPlace (c .before .before .before .before .before .before .before .before .before .before .args .row) 1 (c .before .before .before .before .before .before .before .before .before .before .args .i) (c .before .before .before .before .loop .j)
+second-is c = c .place2 .ensures ∙ place-code (c .before .before .before .before .before .before .before .before .before .before .args .row) 1 (c .before .before .before .before .before .before .before .before .before .before .args .i) (c .before .before .before .before .loop .j)
+
+second-inside : (c : tie.After-place2 Inv-loop μ-loop) → (1 ≤ c .place2 .result) × (c .place2 .result ≤ length (c .before .before .before .before .before .before .before .before .before .before .args .u .now))
+second-inside c =
     let st = c .before .before .before .before .before .before .before .before .before .before in
-    omega (arith, c .place2 .ensures, place-inside (st .args .row) (st .args .u .now) (st .pre .0) (st .pre .2) (st .pre .4) 1 (st .args .i) (c .before .before .before .before .loop .j) (omega arith) (omega arith), place-code (st .args .row) 1 (st .args .i) (c .before .before .before .before .loop .j))
+    rw (second-is c) (place-inside (st .args .row) (st .args .u .now) (st .pre .0) (st .pre .2) (st .pre .4) 1 (st .args .i) (c .before .before .before .before .loop .j) (omega arith) (omega arith))
+
+sub-v-2 : tie.Need-sub-v-2 Inv-loop μ-loop
+sub-v-2 c = second-inside c .0
 
 shared-slice-read-v-2 : tie.Need-shared-slice-read-v-2 Inv-loop μ-loop
-shared-slice-read-v-2 c =
-    let st = c .before .before .before .before .before .before .before .before .before .before .before in
-    omega (arith, c .before .place2 .ensures, place-inside (st .args .row) (st .args .u .now) (st .pre .0) (st .pre .2) (st .pre .4) 1 (st .args .i) (c .before .before .before .before .before .loop .j) (omega arith) (omega arith), place-code (st .args .row) 1 (st .args .i) (c .before .before .before .before .before .loop .j))
+shared-slice-read-v-2 c = omega (arith, second-inside (c .before))
 
 add-v : tie.Need-add-v Inv-loop μ-loop
 add-v c =
@@ -140,10 +151,7 @@ loop-again : tie.Need-loop-again Inv-loop μ-loop
 loop-again c =
     let st = c .before .before .before .before .before .before .before .before .before .before .before in
     let at = c .before .before .before .before .before .loop in
-    let row = st .args .row in
-    let first = c .before .before .before .place .ensures ∙ place-code row 0 (st .args .i) (at .j) in
-    let second = c .before .place2 .ensures ∙ place-code row 1 (st .args .i) (at .j) in
-    (search needs, rw (first, second) (pairs-next row (st .args .u .now) (st .pre .0) (st .pre .2) (st .pre .4) (st .args .i) (at .j) (omega arith) (at .inv .1)))
+    (search needs, rw (first-is (c .before .before .before), second-is (c .before)) (pairs-next (st .args .row) (st .args .u .now) (st .pre .0) (st .pre .2) (st .pre .4) (st .args .i) (at .j) (omega arith) (at .inv .1)))
 
 same-length : tie.Need-same-length Inv-loop μ-loop
 same-length c = c .before .loop .inv .1 .long
