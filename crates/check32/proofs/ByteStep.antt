@@ -13,8 +13,8 @@ use Rattle.bits.proofs.Datagram.{byte-bits, after-byte}
 use Rattle.bits.proofs.Row.{length-highFirst}
 use Rattle.bits.proofs.Xor.{⊕-assoc, ⊕-self, ⊕-zero, zero-⊕}
 use Rattle.bits.proofs.XorRows.{xorRows-highFirst}
-use Rattle.check32.specs.Bytes.{entries, ByteResidues}
 use Rattle.check32.specs.Check.{registerFrom}
+use Rattle.check32.proofs.ByteTable.{halves, halves-right}
 use Rattle.check32.proofs.Linear.{registerFrom-append, registerFrom-xor}
 use Rattle.check32.proofs.OwnBits.{own-bits}
 
@@ -42,9 +42,9 @@ module _ (r : ℕ) (h : r < 2 ^ 32) where
     pub both-lt : bitXor top b < 256
     both-lt = xor-lt 8 top b (omega arith) l
 
-    pub byte-word : (table : List ℕ) → ByteResidues table → bitXor (r * 2 ^ 8 % 2 ^ 32) (entries table (bitXor top b)) ≡ registerFrom r (highFirst 8 b)
+    pub byte-word : bitXor (r * 2 ^ 8 % 2 ^ 32) (halves (bitXor top b)) ≡ registerFrom r (highFirst 8 b)
     unfolding _⊕_
-    byte-word table residues = ap (bitXor (r * 2 ^ 8 % 2 ^ 32)) (residues .entry (bitXor top b) both-lt) ∙ other-byte b
+    byte-word = ap (bitXor (r * 2 ^ 8 % 2 ^ 32)) (halves-right (bitXor top b) both-lt) ∙ other-byte b
 
 -- ---- over a row of bytes, eight at a time
 pub register-byte : (row : List ℕ) (r j : ℕ) → j * 8 + 8 ≤ length row

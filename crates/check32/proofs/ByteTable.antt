@@ -1,17 +1,24 @@
--- The table of what each byte leaves in the register, by one test that antt computes over the 256 bytes.
+-- A byte leaves in the register what its two halves leave, added: one test that antt computes over the 256 bytes.
 -- Assumes nothing.
+use mathlib.Core.Path.{_≡_}
 use mathlib.Core.Bool.{Bool}
-use mathlib.Core.List.{List}
-use Prim.Native.Nat.{ℕ}
-use lib.Dec.{T, eqb, eqb→eq}
-use Rattle.lists.proofs.Line.{upto, line}
+use Prim.Native.Nat.{ℕ, _+_, _/_, _%_, _<_}
+use lib.Bits.{bitXor}
+use lib.Dec.{eqb, eqb→eq}
+use lib.ListN.{getD}
+use Rattle.lists.proofs.Line.{line}
 use Rattle.bits.specs.Row.{highFirst}
-use Rattle.check32.specs.Bytes.{entries, ByteResidues}
-use Rattle.check32.specs.Check.{registerFrom}
+use Rattle.bits.specs.Xor.{_⊕_}
+use Rattle.check32.specs.Bytes.{byteResidue, residuesFrom, byteResidues}
+use Rattle.check32.specs.Check.{timesX, step, registerFrom}
 
--- the entries of n are right
-abbrev pub right : List ℕ → ℕ → Bool
-right table n = eqb (entries table n) (registerFrom 0 (highFirst 8 n))
+-- the entries of both halves, the low ones first in the table
+abbrev pub halves : ℕ → ℕ
+halves n = bitXor (getD byteResidues (n / 16 + 16) 0) (getD byteResidues (n % 16) 0)
 
-pub tested : (table : List ℕ) → T (upto 256 (right table)) → ByteResidues table
-tested table t = record { entry = λ n h. eqb→eq (entries table n) (registerFrom 0 (highFirst 8 n)) (line 256 (right table) t n h) }
+abbrev right : ℕ → Bool
+right n = eqb (halves n) (byteResidue n)
+
+pub halves-right : (n : ℕ) → n < 256 → halves n ≡ byteResidue n
+unfolding byteResidues residuesFrom highFirst _⊕_ timesX step registerFrom
+halves-right n h = eqb→eq (halves n) (byteResidue n) (line 256 right tt n h)

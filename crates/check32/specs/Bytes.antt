@@ -1,16 +1,18 @@
 -- The check by whole bytes: what each byte alone leaves in the register.
-use mathlib.Core.Path.{_≡_}
-use mathlib.Core.List.{List}
-use Prim.Native.Nat.{ℕ, _+_, _/_, _%_, _<_}
-use lib.Bits.{bitXor}
-use lib.ListN.{getD}
+use mathlib.Core.List.{List, [], _∷_, _++_}
+use Prim.Native.Nat.{ℕ, zero, suc, _+_}
 use Rattle.bits.specs.Row.{highFirst}
 use Rattle.check32.specs.Check.{registerFrom}
 
--- the entries of a byte's two halves, the low ones first in the table
-abbrev pub entries : List ℕ → ℕ → ℕ
-entries table n = bitXor (getD table (n / 16 + 16) 0) (getD table (n % 16) 0)
+-- the register, from zero, after the eight bits of a byte
+abbrev pub byteResidue : ℕ → ℕ
+byteResidue n = registerFrom 0 (highFirst 8 n)
 
--- together they are the register, from zero, after the eight bits of the byte n
-pub record ByteResidues (table : List ℕ) : Type 0 where
-  pub entry : (n : ℕ) → n < 256 → entries table n ≡ registerFrom 0 (highFirst 8 n)
+-- of some bytes from n on, each `apart` from the one before
+unfoldable pub residuesFrom : ℕ → ℕ → ℕ → List ℕ
+residuesFrom apart n zero = []
+residuesFrom apart n (suc left) = byteResidue n ∷ residuesFrom apart (n + apart) left
+
+-- of the bytes below 16, and then of the multiples of 16
+unfoldable pub byteResidues : List ℕ
+byteResidues = residuesFrom 1 0 16 ++ residuesFrom 16 0 16

@@ -5,7 +5,7 @@ ghost use mathlib.Core.Path.{_≡_};
 ghost use mathlib.Core.List.{map};
 ghost use Rattle.bits.specs.Bits.{isOne};
 ghost use Rattle.bits.specs.Row.{highFirst};
-ghost use Rattle.check32.specs.Bytes.{ByteResidues};
+ghost use Rattle.check32.specs.Bytes.{byteResidues};
 ghost use Rattle.check32.specs.Check.{step, registerFrom, register};
 ghost use Rattle.check32.specs.Residue.{bitsAfter};
 
@@ -20,7 +20,7 @@ pub fn step(r: u32, bit: bool) -> u32
 // Eight bits go in at once, the highest of a byte first: the register moves up by eight places, and what falls out of it and the byte
 // together leave their residue.
 fn step_byte(r: u32, byte: u8, residues: &[u32; 32]) -> u32
-    requires { ⌜ ByteResidues (now residues) ⌝ }
+    requires { ⌜ now residues ≡ byteResidues ⌝ }
     ensures { λ v. ⌜ v ≡ registerFrom r (highFirst 8 byte) ⌝ }
 {
     let out = ((r >> 24) as u8) ^ byte;

@@ -32,7 +32,7 @@ element-copy-out-high c = omega (arith, both-lt (c .before .args .r) (omega arit
 returns : tie.Need-returns
 returns c =
     let a = c .before .before .args in
-    byte-word (a .r) (omega arith) (a .byte) (omega arith) (a .residues .now) (c .before .before .pre)
+    rw (c .before .before .pre) (byte-word (a .r) (omega arith) (a .byte) (omega arith))
 
 pub step-byte-spec : {M : Type 1} → statement M
 step-byte-spec =
