@@ -1,10 +1,11 @@
--- What tests say: two together, a choice by one, and one that a call answered.
+-- What tests say: two together, a choice by one, one that a call answered, and one of equal numbers.
 -- Assumes nothing.
 use mathlib.Core.Path.{_≡_, refl, sym, _∙_}
 use mathlib.Core.Logic.{_⊎_, inl, inr}
 use mathlib.Core.Bool.{Bool, true, false, not, cond, _&&_, false≢true}
-use lib.Dec.{T}
-use borrow.Author.Tests.{not-true, not-false}
+use Prim.Native.Nat.{ℕ}
+use lib.Dec.{T, eqb}
+use borrow.Author.Tests.{not-true, not-false, eqb-true, eqb-false}
 
 pub both-left : (a b : Bool) → T (a && b) → T a
 both-left true b t = tt
@@ -29,3 +30,10 @@ holds {answer} e n = sym e ∙ not-false answer n
 
 pub fails : {answer test : Bool} → answer ≡ test → not answer ≡ true → test ≡ false
 fails {answer} e n = sym e ∙ not-true answer n
+
+-- code that refuses where two numbers differ, the test taken first
+pub equal : (a b : ℕ) → not (eqb a b) ≡ false → a ≡ b
+equal a b n = eqb-true a b (not-false (eqb a b) n)
+
+pub unequal : (a b : ℕ) → not (eqb a b) ≡ true → a ≡ b → ⊥
+unequal a b n = eqb-false a b (not-true (eqb a b) n)

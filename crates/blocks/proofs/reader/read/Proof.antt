@@ -4,11 +4,11 @@ use mathlib.Core.Bool.{true}
 use Prim.Native.Nat.{_≤_}
 use native.Mathlib.Omega.{arith}
 use lib.ListN.{length}
-use borrow.Author.Tests.{not-true, not-false, eqb-true, eqb-false, ltb-true, ltb-false}
+use borrow.Author.Tests.{ltb-true, ltb-false}
 use borrow.Author.Needs.{needs}
 use Rattle.answers.proofs.Wrote.{refuses}
 use Rattle.bits.specs.Bits.{allBits}
-use Rattle.lists.proofs.Tests.{holds, fails}
+use Rattle.lists.proofs.Tests.{holds, fails, equal, unequal}
 use Rattle.links.specs.Rows.{offered, rowOf}
 use Rattle.links.specs.Sizes.{bytesHeld, imageLength}
 use Rattle.links.proofs.Facts.{sizes}
@@ -42,7 +42,7 @@ long : (c : tie.After-bytes-held) → c .before .image-length-at .result ≡ ima
 long c = c .before .image-length-at .ensures ∙ ap imageLength (found-row _ (placed c .before .place-of .ensures))
 
 size : (c : tie.Else2) → length (begun (c .before) .args .bits .now) ≡ imageLength (rowOf (begun (c .before) .args .link))
-size c = eqb-true _ _ (not-false _ (c .if2 .left)) ∙ long (c .before)
+size c = equal (length (begun (c .before) .args .bits .now)) (c .before .before .image-length-at .result) (c .if2 .left) ∙ long (c .before)
 
 fits : (c : tie.Else3) → bytesHeld (rowOf (begun (c .before .before .before) .args .link)) ≤ length (begun (c .before .before .before) .args .out .now)
 fits c =
@@ -78,7 +78,7 @@ refuse-requires-2 c κs = search needs
 returns-2 : tie.Need-returns-2
 returns-2 c =
     let at = c .before .before in
-    let other = eqb-false (length (begun at .args .bits .now)) (at .before .image-length-at .result) (not-true _ (c .before .if2 .taken)) in
+    let other = unequal (length (begun at .args .bits .now)) (at .before .image-length-at .result) (c .before .if2 .taken) in
     refuses (read-length _ _ _ (offers (placed at)) (λ e. other (e ∙ sym (long at)))) (c .refuse2 .ensures)
 
 all-bits-requires : tie.Need-all-bits-requires

@@ -6,9 +6,8 @@ use Prim.Native.Nat.{ℕ}
 use native.Mathlib.Omega.{arith}
 use lib.Seq.{length-take-le}
 use borrow.Author.Needs.{needs}
-use borrow.Author.Tests.{not-true, not-false, eqb-true, eqb-false}
 use Rattle.answers.specs.Numbers.{done}
-use Rattle.lists.proofs.Tests.{holds, fails}
+use Rattle.lists.proofs.Tests.{holds, fails, equal, unequal}
 use Rattle.bits.specs.Bits.{allBits}
 use Rattle.words.specs.declared.Word.{Word}
 use Rattle.words.proofs.Ways.{no-word}
@@ -43,11 +42,11 @@ word c = c .before .read .result
 head : (c : tie.Else3) → readHead (burst (long (bits (c .before)))) ≡ slotWord (word (c .before))
 head c =
     let at = bits (c .before) in
-    let trained = eqb-true _ 0 (not-false _ (c .if3 .left)) in
+    let trained = equal (c .before .before .before .before .wrong .result) 0 (c .if3 .left) in
     head-word (burst (long at)) (long at .if1 .left) (all at) (sym (counted (c .before)) ∙ trained) ∙ ap slotWord (sym (c .before .before .read .ensures))
 
 named : (c : tie.Else4) → word (c .before .before) .status ≡ done
-named c = eqb-true _ done (not-false _ (c .if4 .left))
+named c = equal (word (c .before .before) .status) done (c .if4 .left)
 
 refuse-requires : tie.Need-refuse-requires
 refuse-requires c κs = search needs
@@ -98,7 +97,7 @@ returns-3 : tie.Need-returns-3
 returns-3 c =
     let read = c .before .before in
     let at = bits read in
-    let untrained = eqb-false (read .before .before .before .wrong .result) 0 (not-true _ (c .before .if3 .taken)) in
+    let untrained = unequal (read .before .before .before .wrong .result) 0 (c .before .if3 .taken) in
     c .refuse3 .ensures ∙ sym (head-no-training (burst (long at)) (long at .if1 .left) (all at) (λ e. untrained (counted read ∙ e)))
 
 refuse-requires-4 : tie.Need-refuse-requires-4
@@ -109,7 +108,7 @@ returns-4 c =
     let trained = c .before .before in
     let read = trained .before in
     let at = bits read in
-    let nameless = eqb-false (word read .status) done (not-true _ (c .before .if4 .taken)) in
+    let nameless = unequal (word read .status) done (c .before .if4 .taken) in
     let far =
     no-word _ (word-long (burst (long at)) (long at .if1 .left)) (word-bits (burst (long at)) (all at)) (λ e. nameless (ap (λ (w : Word). w .status) (read .before .read .ensures) ∙ e)) in
     c .refuse4 .ensures ∙ sym (head trained ∙ word-refused (word read) nameless ∙ read .before .read .ensures ∙ far)
