@@ -34,7 +34,7 @@ unfolding noPlaces
 lay-places-requires c κs =
     let p = c .before .before .before .before .before .before .before .pre .0 in
     let long : length noPlaces ≡ 96 = refl in
-    (p .some, p .few, rw (c .before .before .before .clocks .ensures) (group-few _ (p .few)), p .pattern-flags, ap length (c .before .no-places .ensures) ∙ long)
+    (p .some, p .few, omega (arith, c .before .before .before .clocks .ensures, group-few _ (p .few)), p .pattern-flags, ap length (c .before .no-places .ensures) ∙ long)
 
 loop-holds : tie.Need-loop-holds Inv-loop μ-loop
 loop-holds c =
@@ -46,7 +46,7 @@ loop-holds c =
     let laid = c .before .lay-places .ensures in (
       record {
         long = search needs;
-        few = rw n (group-few (a .period) most);
+        few = omega (arith, n, group-few (a .period) most);
         whole = rw n (group-whole (a .period) most);
         enough = λ some. rw n (group-enough (a .period) most (omega (arith, n, in-groups-some (length (a .u .now)) (clocks .result) limit some)));
         limited = in-groups-most (length (a .u .now)) (clocks .result) limit;
