@@ -1,7 +1,7 @@
 -- Eight clocks of an encoder at a time come to what they come to one by one: antt computes both at every register and all inputs.
 -- Assumes nothing.
 use mathlib.Core.Path.{_≡_, refl, sym, ap, _∙_}
-use mathlib.Core.Bool.{Bool, true, false, xor}
+use mathlib.Core.Bool.{Bool, false, xor}
 use mathlib.Core.List.{List, [], _∷_}
 use Prim.Native.Nat.{ℕ, suc, _+_, _-_, _*_, _/_, _%_, _^_, _≤_, _<_}
 use native.Mathlib.Omega.{arith}
@@ -10,12 +10,14 @@ use lib.Dec.{T, eqb}
 use lib.ListN.{length, take, replicate}
 use Rattle.lists.proofs.Line.{line}
 use Rattle.bits.specs.Xor.{xorRows}
+use Rattle.bits.proofs.Bits.{byte-lt}
 use Rattle.turbo.specs.Encoder.{Register, fed, y0, y1, next}
 use Rattle.turbo.specs.Joined.{joined, joinedBits}
 use Rattle.turbo.specs.Number.{numberOf, registerIn, lastOf, Kept}
 use Rattle.turbo.specs.Outputs.{outputs}
 use Rattle.turbo.specs.Parity.{registerAfter}
 use Rattle.turbo.proofs.Joined.{Eight, later, eight-later, eight-xor}
+use Rattle.turbo.proofs.Number.{register-of}
 use Rattle.turbo.proofs.Rows.{everyRegister, everyRow, agree-register, agree-eight}
 
 pub length-outputs : (y : Register → Bool → Bool) (r : Register) (row : List Bool) → length (outputs y r row) ≡ length row
@@ -121,19 +123,12 @@ after-word n h l r row long e =
     ∙ ap (λ (k : ℕ). lastOf (registerAfter r (take k row))) same
 
 -- ---- a register kept a byte to each bit, and as a number below 8
-read-back : (a1 a2 a3 : Bool) → registerIn (lastOf (record { a1 = a1; a2 = a2; a3 = a3 })) ≡ record { a1 = a1; a2 = a2; a3 = a3 }
-unfolding registerIn lastOf
-read-back true true true = refl
-read-back true true false = refl
-read-back true false true = refl
-read-back true false false = refl
-read-back false true true = refl
-read-back false true false = refl
-read-back false false true = refl
-read-back false false false = refl
-
 pub in-last : (r : Register) {n : ℕ} → n ≡ lastOf r → registerIn n ≡ r
-in-last r e = ap registerIn e ∙ read-back (r .a1) (r .a2) (r .a3)
+unfolding registerIn lastOf
+in-last r {n} e =
+    let h2 = byte-lt (r .a2) in
+    let h3 = byte-lt (r .a3) in
+    register-of r (n / 65536 % 2) (n / 256 % 2) (n % 2) (omega (arith, e, h2, h3, byte-lt (r .a1))) (omega (arith, e, h2, h3)) (omega (arith, e, h3))
 
 pub kept-last : (r : Register) {n : ℕ} → n ≡ lastOf r → Kept n
 kept-last r e = e ∙ ap lastOf (sym (in-last r e))

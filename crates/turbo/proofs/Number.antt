@@ -1,8 +1,8 @@
 -- The register as a number: it stands for the register it was made of, and a rule over registers and inputs is computed at all sixteen.
 -- Assumes nothing.
 use mathlib.Core.Path.{_≡_, refl, ap, _∙_}
-use mathlib.Core.Bool.{Bool, true, false}
-use Prim.Native.Nat.{ℕ, _+_, _*_, _≤_, _<_}
+use mathlib.Core.Bool.{Bool}
+use Prim.Native.Nat.{ℕ, _+_, _*_, _/_, _%_, _≤_, _<_}
 use native.Mathlib.Omega.{arith}
 use lib.Dec.{T, eqb, eqb→eq}
 use Rattle.lists.proofs.Line.{upto, square}
@@ -24,20 +24,17 @@ pub of-shifted : (f : ℕ → ℕ) (g : Register → Bool → ℕ) → T (upto 8
     → (bits r u : ℕ) → bits ≡ shiftedIn r u → r < 8 → u ≤ 1 → f bits ≡ g (registerOf r) (isOne u)
 of-shifted f g t bits r u e hr hu = ap f e ∙ agree (λ r u. f (shiftedIn r u)) (λ r u. g (registerOf r) (isOne u)) t r u hr hu
 
-bits : (a1 a2 a3 : Bool) → registerOf (numberOf (record { a1 = a1; a2 = a2; a3 = a3 })) ≡ record { a1 = a1; a2 = a2; a3 = a3 }
-unfolding registerOf numberOf
-bits true true true = refl
-bits true true false = refl
-bits true false true = refl
-bits true false false = refl
-bits false true true = refl
-bits false true false = refl
-bits false false true = refl
-bits false false false = refl
+-- the register that three bits make, each kept as a byte
+pub register-of : (x : Register) (b1 b2 b3 : ℕ) → b1 ≡ byte (x .a1) → b2 ≡ byte (x .a2) → b3 ≡ byte (x .a3) → record { a1 = isOne b1; a2 = isOne b2; a3 = isOne b3 } ≡ x
+register-of x b1 b2 b3 e1 e2 e3 = rw (e1, e2, e3, isOne-byte (x .a1), isOne-byte (x .a2), isOne-byte (x .a3))
 
 -- what a number that the code made of a register says of it
 pub register-made : (x : Register) {n : ℕ} → n ≡ numberOf x → registerOf n ≡ x
-register-made x e = ap registerOf e ∙ bits (x .a1) (x .a2) (x .a3)
+unfolding registerOf numberOf
+register-made x {n} e =
+    let h1 = byte-lt (x .a1) in
+    let h2 = byte-lt (x .a2) in
+    register-of x (n % 2) (n / 2 % 2) (n / 4 % 2) (omega (arith, e, h1)) (omega (arith, e, h1, h2)) (omega (arith, e, h1, h2, byte-lt (x .a3)))
 
 pub made-small : (x : Register) {n : ℕ} → n ≡ numberOf x → n < 8
 unfolding numberOf
