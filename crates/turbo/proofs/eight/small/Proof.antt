@@ -1,4 +1,4 @@
--- The same three bits, two to a byte apart or one. Assumes nothing.
+-- The same three bits, a byte apart and side by side. Assumes nothing.
 use native.Mathlib.Omega.{arith}
 use Rattle.turbo.specs.Number.{registerIn}
 use Rattle.turbo.proofs.Number.{made-small}
