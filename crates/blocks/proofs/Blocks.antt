@@ -1,7 +1,8 @@
--- The block of a datagram is valid, its image is as long as the link's are, and it holds the datagram, zero-filled.
+-- The block of a datagram is valid, its image is as long as the link's are, and it holds the datagram, zero-filled; how long the datagram
+-- in a block is.
 -- Assumes nothing.
 use mathlib.Core.Path.{_≡_, refl, _∙_}
-use mathlib.Core.Bool.{true, false, not}
+use mathlib.Core.Bool.{Bool, true, false, not}
 use mathlib.Core.List.{List, map}
 use Prim.Native.Nat.{ℕ, _-_, _*_, _≤_}
 use native.Mathlib.Omega.{arith}
@@ -11,7 +12,7 @@ use lib.Seq.{take-at}
 use Rattle.lists.proofs.Every.{every-replicate}
 use Rattle.bits.specs.Bits.{byte}
 use Rattle.bits.specs.Datagram.{bitsOf, allBytes}
-use Rattle.bits.proofs.Datagram.{length-bitsOf, bytesOf-append, datagram-back}
+use Rattle.bits.proofs.Datagram.{length-bitsOf, length-bytesOf, bytesOf-append, datagram-back}
 use Rattle.bits.proofs.Filled.{length-filled, drop-filled}
 use Rattle.bits.proofs.Row.{length-highFirst}
 use Rattle.check32.specs.Check.{register, checkBits}
@@ -25,6 +26,10 @@ use Rattle.links.proofs.Facts.{sizes}
 use Rattle.blocks.specs.Block.{opening, blockOf, imageOf, datagramOf, zeroFilled}
 use Rattle.blocks.specs.Coding.{codingOf}
 use Rattle.blocks.proofs.Sound.{length-image}
+
+pub length-datagram : (row : Row) (u : List Bool) → length (datagramOf row u) ≡ bytesHeld row
+unfolding datagramOf
+length-datagram row u = length-bytesOf (bytesHeld row) u
 
 module _ (row : Row) (good : T (goodRow row)) (datagram : List ℕ) where
   length-opening : length (opening row datagram) ≡ row .k - 32

@@ -1,16 +1,6 @@
-pub mod Accepting
 pub mod Answered
-pub mod BitsOver
 pub mod Blocks
 pub mod Calls
-pub mod Cleared
-pub mod Comparing
-pub mod Composed
 pub mod Exact
-pub mod FoundRow
-pub mod Lent
-pub mod Mending
 pub mod Sound
-pub mod Taking
-pub mod Unscrambled
 pub mod WaysOfReading

@@ -1,24 +1,5 @@
-// Blocks (document 01, "From datagram to block"): a datagram as the image of its block, and back.
-mod coded;
-mod reader;
-mod received;
-mod scratch;
-
-use answers::Written;
-use links::Row;
-pub use reader::read;
-ghost use mathlib.Core.Path.{_≡_};
-ghost use mathlib.Core.List.{map};
-ghost use Prim.Native.Nat.{_≤_};
-ghost use lib.Dec.{T};
-ghost use lib.ListN.{length};
-ghost use Rattle.answers.specs.Outcome.{Wrote};
-ghost use Rattle.bits.specs.Bits.{byte};
-ghost use Rattle.links.specs.Good.{goodRow};
-ghost use Rattle.links.specs.Sizes.{bytesHeld, imageLength};
-ghost use Rattle.lists.specs.Over.{Lays};
-ghost use Rattle.blocks.specs.Block.{blockOf, imageOf};
-ghost use Rattle.blocks.specs.Calls.{writeBlock};
+// Blocks (document 01, "From datagram to block"): what a datagram's block and its image are, what the calls on them answer, and their laws.
+// The code stands above, in block_writer and block_reader.
 
 // What reading a block answers: the bytes of its datagram, and in how many places its image differs from what came.
 #[repr(C)]
@@ -26,54 +7,4 @@ pub struct Block {
     pub status: u32,
     pub count: u32,
     pub wrong: u32,
-}
-
-// The bits of a datagram's block: the datagram, zero-filled, and its check.
-fn block_bits(row: Row, datagram: &[u8], u: &mut [u8])
-    requires { ⌜ T (goodRow row) × (length (now u) ≡ row .k) × (length (now datagram) ≤ bytesHeld row) ⌝ }
-    ensures { λ _. ⌜ now (u .exit) ≡ map byte (blockOf row (now (datagram .entry))) ⌝ }
-{
-    let open = (row.k - 32) as usize;
-    bits::unpack(datagram, open, u);
-    let check = check32::register(&u[..open]);
-    bits::lay_row(check, u, open);
-}
-
-// Lays the image of a datagram's block at the buffer's start; answers N. u and v are scratch for the block's bits.
-fn lay_block(row: Row, datagram: &[u8], u: &mut [u8], v: &mut [u8], out: &mut [u8]) -> usize
-    requires { ⌜ T (goodRow row) × (length (now datagram) ≤ bytesHeld row) × (length (now u) ≡ row .k) × (length (now v) ≡ row .k) × (imageLength row ≤ length (now out)) ⌝ }
-    ensures { λ r. ⌜ Lays 0 (map byte (imageOf row (blockOf row (now (datagram .entry))))) (now (out .entry)) (now (out .exit)) r ⌝ }
-{
-    block_bits(row, datagram, u);
-    coded::lay_image(row, u, v, out)
-}
-
-// The same, with scratch of its own.
-fn write_row(row: Row, datagram: &[u8], out: &mut [u8]) -> usize
-    requires { ⌜ T (goodRow row) × (length (now datagram) ≤ bytesHeld row) × (imageLength row ≤ length (now out)) ⌝ }
-    ensures { λ r. ⌜ Lays 0 (map byte (imageOf row (blockOf row (now (datagram .entry))))) (now (out .entry)) (now (out .exit)) r ⌝ }
-{
-    let k = row.k as usize;
-    let mut u = scratch::block();
-    let mut v = scratch::block();
-    lay_block(row, datagram, &mut u[..k], &mut v[..k], out)
-}
-
-// Writes the image of a datagram's block, one bit to a byte.
-pub fn write(link: u32, datagram: &[u8], out: &mut [u8]) -> Written
-    ensures { λ r. ⌜ Wrote (writeBlock link (now (datagram .entry)) (length (now (out .entry)))) (now (out .entry)) (now (out .exit)) r ⌝ }
-{
-    let place = links::place_of(link);
-    if place >= 22 {
-        return answers::refuse(1);
-    }
-    let row = links::row_at(place);
-    if datagram.len() > links::bytes_held(row) {
-        return answers::refuse(2);
-    }
-    if out.len() < links::image_length_at(place) {
-        return answers::refuse(3);
-    }
-    let n = write_row(row, datagram, out);
-    answers::done(n as u32)
 }

@@ -30,9 +30,8 @@ use Rattle.blocks.specs.Block.{blockOf, imageOf, datagramOf, zeroFilled}
 use Rattle.blocks.specs.Coding.{codingOf}
 use Rattle.blocks.specs.Near.{Valid, Near}
 use Rattle.blocks.specs.Calls.{blockTask, readBlock, refused as refusal, reading}
-use Rattle.blocks.proofs.Accepting.{length-datagram}
 use Rattle.blocks.proofs.Answered.{near-answered, near-itself, near-flipped}
-use Rattle.blocks.proofs.Blocks.{long-image, block-valid, datagram-in-block}
+use Rattle.blocks.proofs.Blocks.{length-datagram, long-image, block-valid, datagram-in-block}
 use Rattle.blocks.proofs.WaysOfReading as r
 use Rattle.claims.specs.Calls.{WroteBlock, ReadBlock, BlockAnswer}
 use Rattle.claims.proofs.Tasks.{Met, met, done-met}

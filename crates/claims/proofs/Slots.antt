@@ -19,8 +19,7 @@ use Rattle.links.specs.Sizes.{bytesHeld}
 use Rattle.links.proofs.Good.{good}
 use Rattle.blocks.specs.Block.{blockOf, imageOf, datagramOf, zeroFilled}
 use Rattle.blocks.specs.Near.{Near as NearBlock}
-use Rattle.blocks.proofs.Accepting.{length-datagram}
-use Rattle.blocks.proofs.Blocks.{block-valid, datagram-in-block}
+use Rattle.blocks.proofs.Blocks.{length-datagram, block-valid, datagram-in-block}
 use Rattle.blocks.proofs.Exact as blocks
 use Rattle.words.specs.Word.{wordBits}
 use Rattle.words.proofs.Apart as words

@@ -37,14 +37,14 @@ pub extern "C" fn decklewren_step_message(datagram: &[u8], position: usize) -> S
 pub extern "C" fn decklewren_write_block(link: u32, datagram: &[u8], out: &mut [u8]) -> Written
     ensures { λ r. ⌜ Wrote (writeBlock link (now (datagram .entry)) (length (now (out .entry)))) (now (out .entry)) (now (out .exit)) r ⌝ }
 {
-    blocks::write(link, datagram, out)
+    block_writer::write(link, datagram, out)
 }
 
 #[no_mangle]
 pub extern "C" fn decklewren_read_block(link: u32, bits: &[u8], out: &mut [u8]) -> Block
     ensures { λ r. ⌜ Wrote (readBlock link (now (bits .entry)) (length (now (out .entry)))) (now (out .entry)) (now (out .exit)) r ⌝ }
 {
-    blocks::read(link, bits, out)
+    block_reader::read(link, bits, out)
 }
 
 #[no_mangle]

@@ -1,4 +1,5 @@
 pub mod Facts
+pub mod FoundRow
 pub mod Good
 pub mod GoodFlags
 pub mod Names

@@ -34,6 +34,6 @@ pub fn write(link: u32, datagram: &[u8], out: &mut [u8]) -> Written
         return answers::refuse(3);
     }
     head::lay(link, out);
-    let block = blocks::write(link, datagram, &mut out[86..]);
+    let block = block_writer::write(link, datagram, &mut out[86..]);
     answers::done(86 + block.count)
 }

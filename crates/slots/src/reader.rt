@@ -45,6 +45,6 @@ pub fn read(burst: &[u8], out: &mut [u8]) -> Slot
     if head.status != 0 {
         return refuse(head.status);
     }
-    let block = blocks::read(head.number, &burst[86..], out);
+    let block = block_reader::read(head.number, &burst[86..], out);
     join(head, block)
 }

@@ -13,7 +13,7 @@ use Rattle.links.specs.Sizes.{bytesHeld, imageLength}
 use Rattle.links.proofs.Facts.{sizes}
 use Rattle.links.proofs.Good.{good}
 use Rattle.links.proofs.Search.{row-count, offered-place, found-row}
-use Rattle.blocks.proofs.FoundRow.{row-is, row-good}
+use Rattle.links.proofs.FoundRow.{row-is, row-good}
 use Rattle.slots.specs.Burst.{isSlotLink, burstLength}
 use Rattle.slots.proofs.Links.{slot-offered, slot-has-word}
 use Rattle.slots.proofs.Writing.{counted, written}

@@ -1,0 +1,4 @@
+pub mod Accepting
+pub mod BitsOver
+pub mod Comparing
+pub mod Mending

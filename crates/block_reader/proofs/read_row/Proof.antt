@@ -1,0 +1,70 @@
+-- The longest block and the longest image have room for the row's. Assumes nothing.
+use mathlib.Core.Path.{sym, _∙_}
+use Prim.Native.Nat.{_≤_}
+use native.Mathlib.Omega.{arith}
+use lib.ListN.{length}
+use Rattle.links.proofs.Facts.{sizes}
+use Rattle.images.proofs.Lent.{scratch-enough, length-lent}
+use borrow.Author.Needs.{needs}
+use Rattle.block_reader.proofs.read_row.Statement.{statement}
+use Rattle.block_reader.proofs.read_row.Tie as tie
+
+short : (c : tie.After-image) → c .before .before .before .before .before .args .row .k ≤ 5616
+short c = sizes _ (c .before .before .before .before .before .pre .0) .block
+
+image-short : (c : tie.After-image) → length (c .before .before .before .before .before .args .came .now) ≤ 12855
+image-short c = let start = c .before .before .before .before .before in omega (arith, start .pre .1, sizes _ (start .pre .0) .image)
+
+cast-k : tie.Need-cast-k
+cast-k c = search needs
+
+block-requires : tie.Need-block-requires
+block-requires c κs = search needs
+
+image-requires : tie.Need-image-requires
+image-requires c κs = search needs
+
+array-borrow-prefix-u : tie.Need-array-borrow-prefix-u
+array-borrow-prefix-u c = scratch-enough 5616 _ (c .before .block .ensures) (short c)
+
+slice-aggregate-read-block : tie.Need-slice-aggregate-read-block
+slice-aggregate-read-block c = sym (length-lent 5616 _ (c .before .before .block .ensures) (short (c .before)))
+
+array-borrow-prefix-image : tie.Need-array-borrow-prefix-image
+array-borrow-prefix-image c = scratch-enough 12855 _ (c .before .image .ensures) (image-short (c .before))
+
+slice-aggregate-read-block-2 : tie.Need-slice-aggregate-read-block-2
+slice-aggregate-read-block-2 c = sym (length-lent 12855 _ (c .before .before .image .ensures) (image-short (c .before .before)))
+
+read-block-requires : tie.Need-read-block-requires
+read-block-requires c κs =
+    let start = c .before .before .before .before .before .before .before .before in
+    let at = c .before .before .before in (
+      start .pre .0,
+      start .pre .1,
+      start .pre .2,
+      length-lent 5616 _ (at .before .block .ensures) (short at),
+      length-lent 12855 _ (at .image .ensures) (image-short at) ∙ start .pre .1,
+      start .pre .3,
+    )
+
+same-length : tie.Need-same-length
+same-length c = search needs
+
+returns : tie.Need-returns
+returns c = c .before .before .before .before .read-block .ensures
+
+pub read-row-spec : {M : Type 1} → statement M
+read-row-spec =
+    tie.close
+    (tie.spec
+    cast-k
+    block-requires
+    image-requires
+    array-borrow-prefix-u
+    slice-aggregate-read-block
+    array-borrow-prefix-image
+    slice-aggregate-read-block-2
+    read-block-requires
+    same-length
+    returns)

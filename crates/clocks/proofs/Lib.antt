@@ -1,0 +1,2 @@
+pub mod AtClock
+pub mod Left

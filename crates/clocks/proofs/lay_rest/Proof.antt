@@ -1,0 +1,120 @@
+-- Clock by clock, by the laws of AtClock. Assumes nothing.
+use mathlib.Core.Path.{_≡_, sym, _∙_}
+use Prim.Native.Nat.{_-_}
+use native.Mathlib.Omega.{arith}
+use lib.ListN.{length, take}
+use Rattle.lists.proofs.Over.{start}
+use Rattle.bits.proofs.Bits.{bit-low}
+use Rattle.encoder.specs.Number.{registerOf}
+use Rattle.clocks.specs.Encode.{left}
+use Rattle.clocks.proofs.AtClock.{AtClock, place-below, clock-fits, at-next, ending-fits, at-end}
+use borrow.Author.Needs.{needs}
+use Rattle.clocks.proofs.lay_rest.Statement.{statement}
+use Rattle.clocks.proofs.lay_rest.Tie as tie
+
+abbrev Inv-loop : tie.InvT-loop
+Inv-loop u v period tail from a₁ b₁ place out₀ pattern at₀ a₀ b₀ c₀ s₀ s-end out at a b c s =
+    (s-end ≡ length u) × AtClock u v pattern period tail out₀ place (left (take period pattern) tail u v from (registerOf a₁) (registerOf b₁)) out at a b c s
+
+abbrev μ-loop : tie.MeasureT-loop
+μ-loop u v period tail from a₁ b₁ place out₀ pattern at₀ a₀ b₀ c₀ s₀ s-end out at a b c s = s-end - s
+
+loop-holds : tie.Need-loop-holds Inv-loop μ-loop
+loop-holds c =
+    let p = c .before .before .before .pre in
+    (search needs, record { ten = search needs; within = p .1 .0 .0; place = sym (p .1 .0 .1); small-a = p .1 .0 .2; small-b = p .1 .0 .3; laying = start _ _ _ (p .1 .1) })
+
+shared-slice-read-x : tie.Need-shared-slice-read-x Inv-loop μ-loop
+shared-slice-read-x c = search needs
+
+shared-slice-read-y : tie.Need-shared-slice-read-y Inv-loop μ-loop
+shared-slice-read-y c = search needs
+
+mul-flags : tie.Need-mul-flags Inv-loop μ-loop
+mul-flags c =
+    let p = c .before .before .before .before .before .before .before .pre .0 in
+    omega (arith, place-below p (c .before .before .before .loop .inv .1), p .few)
+
+array-copy-out-flags : tie.Need-array-copy-out-flags Inv-loop μ-loop
+array-copy-out-flags c =
+    let p = c .before .before .before .before .before .before .before .pre .0 in
+    omega (arith, place-below p (c .before .before .before .loop .inv .1), p .few)
+
+six-requires : tie.Need-six-requires Inv-loop μ-loop
+six-requires c κs =
+    let p = c .before .before .before .before .before .before .before .before .pre .0 in
+    let l = c .before .before .before .before .loop in
+    (l .inv .1 .small-a, l .inv .1 .small-b, bit-low _ (p .bits-u) (l .s), bit-low _ (p .bits-v) (l .s))
+
+lay-requires : tie.Need-lay-requires Inv-loop μ-loop
+lay-requires c κs =
+    let p = c .before .before .before .before .before .before .before .before .before .before .pre .0 in
+    let l = c .before .before .before .before .before .before .loop in
+    (p .pattern-flags (l .c), rw (c .before .six .ensures) (clock-fits p (l .inv .1) (omega arith)))
+
+next-requires : tie.Need-next-requires Inv-loop μ-loop
+next-requires c κs =
+    let p = c .before .before .before .before .before .before .before .before .before .before .before .before .before .pre .0 in
+    let l = c .before .before .before .before .before .before .before .before .before .loop in
+    (l .inv .1 .small-a, bit-low _ (p .bits-u) (l .s))
+
+next-requires-2 : tie.Need-next-requires-2 Inv-loop μ-loop
+next-requires-2 c κs =
+    let p = c .before .before .before .before .before .before .before .before .before .before .before .before .before .before .pre .0 in
+    let l = c .before .before .before .before .before .before .before .before .before .before .loop in
+    (l .inv .1 .small-b, bit-low _ (p .bits-v) (l .s))
+
+next-clock-requires : tie.Need-next-clock-requires Inv-loop μ-loop
+next-clock-requires c κs =
+    let p = c .before .before .before .before .before .before .before .before .before .before .before .before .before .before .before .pre .0 in
+    (place-below p (c .before .before .before .before .before .before .before .before .before .before .before .loop .inv .1), p .few)
+
+add-s : tie.Need-add-s Inv-loop μ-loop
+add-s c = search needs
+
+loop-less : tie.Need-loop-less Inv-loop μ-loop
+loop-less c = search needs
+
+loop-again : tie.Need-loop-again Inv-loop μ-loop
+loop-again c =
+    let p = c .before .before .before .before .before .before .before .before .before .before .before .before .before .before .before .before .pre .0 in
+    let l = c .before .before .before .before .before .before .before .before .before .before .before .before .loop in
+    let laid = rw (c .before .before .before .before .before .before .before .six .ensures) at (c .before .before .before .before .before .lay .ensures) in
+    (l .inv .0, at-next p (l .inv .1) (omega arith) laid (c .before .before .next .ensures) (c .before .next2 .ensures) (c .next-clock .ensures))
+
+end-requires : tie.Need-end-requires Inv-loop μ-loop
+end-requires c κs =
+    let p = c .before .before .before .before .before .before .pre .0 in
+    let i = c .before .before .loop .inv .1 in
+    ((i .small-a, i .small-b, p .tail-flags), ending-fits p i (omega arith))
+
+same-length : tie.Need-same-length Inv-loop μ-loop
+same-length c = c .before .before .end .kept .1 .1 .1 .1 .0 ∙ c .before .before .before .before .before .loop .inv .1 .laying .long
+
+returns : tie.Need-returns Inv-loop μ-loop
+returns c =
+    let p = c .before .before .before .before .before .before .before .before .before .pre .0 in
+    at-end p (c .before .before .before .before .before .loop .inv .1) (omega arith) (c .before .before .end .ensures)
+
+pub lay-rest-spec : {M : Type 1} → statement M
+lay-rest-spec =
+    tie.close
+    (tie.spec
+    Inv-loop
+    μ-loop
+    loop-holds
+    shared-slice-read-x
+    shared-slice-read-y
+    mul-flags
+    array-copy-out-flags
+    six-requires
+    lay-requires
+    next-requires
+    next-requires-2
+    next-clock-requires
+    add-s
+    loop-less
+    loop-again
+    end-requires
+    same-length
+    returns)

@@ -1,0 +1,4 @@
+pub mod Feed
+pub mod Halves
+pub mod Number
+pub mod Taps

@@ -1,0 +1,105 @@
+-- Place by place: what stands at the places from i on is left to lay. Assumes nothing.
+use mathlib.Core.Path.{_≡_}
+use mathlib.Core.List.{map}
+use Prim.Native.Nat.{_+_, _-_, _≤_}
+use native.Mathlib.Nat.{add-zero, add-assoc}
+use native.Mathlib.Omega.{arith}
+use lib.ListN.{take, drop}
+use Rattle.lists.specs.Over.{Laying}
+use Rattle.lists.proofs.Over.{start, fits, fits-rest, more, done}
+use Rattle.groups.proofs.Places.{at-more, at-done}
+use borrow.Author.Needs.{needs}
+use Rattle.groups.specs.Group.{digit}
+use Rattle.groups.proofs.group.lay_digits.Statement.{statement}
+use Rattle.groups.proofs.group.lay_digits.Tie as tie
+
+abbrev Inv-loop : tie.InvT-loop
+Inv-loop places count at out₀ all i₀ out i = (i ≤ count) × Laying out₀ at (map (digit all) (take count places)) out (at + i) (map (digit all) (drop i (take count places)))
+
+abbrev μ-loop : tie.MeasureT-loop
+μ-loop places count at out₀ all i₀ out i = count - i
+
+loop-holds : tie.Need-loop-holds Inv-loop μ-loop
+loop-holds c = (search needs, rw add-zero (start _ _ _ (c .before .before .pre .1)))
+
+shared-slice-read-wide : tie.Need-shared-slice-read-wide Inv-loop μ-loop
+shared-slice-read-wide c = search needs
+
+wide-requires : tie.Need-wide-requires Inv-loop μ-loop
+wide-requires c κs = search needs
+
+mul-out : tie.Need-mul-out Inv-loop μ-loop
+mul-out c = omega (arith, c .wide .ensures .1)
+
+array-read-out : tie.Need-array-read-out Inv-loop μ-loop
+array-read-out c = omega (arith, c .wide .ensures .1)
+
+cast-out : tie.Need-cast-out Inv-loop μ-loop
+cast-out c = search needs
+
+shr-out : tie.Need-shr-out Inv-loop μ-loop
+shr-out c = search needs
+
+cast-out-2 : tie.Need-cast-out-2 Inv-loop μ-loop
+cast-out-2 c = search needs
+
+add-out : tie.Need-add-out Inv-loop μ-loop
+add-out c = search needs
+
+slice-write-out : tie.Need-slice-write-out Inv-loop μ-loop
+slice-write-out c =
+    let a = c .before .before .before .before .before .before .args in
+    let p = c .before .before .before .before .before .before .pre in
+    let l = c .before .before .before .loop in
+    fits _ _ (l .inv .1) (at-more (digit (a .t1)) (a .places .now) (a .count) (l .i) (omega arith) (p .0))
+
+add-i : tie.Need-add-i Inv-loop μ-loop
+add-i c = search needs
+
+loop-less : tie.Need-loop-less Inv-loop μ-loop
+loop-less c = search needs
+
+loop-again : tie.Need-loop-again Inv-loop μ-loop
+unfolding digit
+loop-again c =
+    let a = c .before .before .before .before .before .before .args in
+    let p = c .before .before .before .before .before .before .pre in
+    let l = c .before .before .before .loop in
+    let next = at-more (digit (a .t1)) (a .places .now) (a .count) (l .i) (omega arith) (p .0) in
+    (search needs, rw (c .wide .ensures .0, ← add-assoc) (more _ _ (l .inv .1) next))
+
+add-result : tie.Need-add-result Inv-loop μ-loop
+add-result c = omega (arith, fits-rest (c .before .loop .inv .1))
+
+same-length : tie.Need-same-length Inv-loop μ-loop
+same-length c = c .before .loop .inv .1 .long
+
+returns : tie.Need-returns Inv-loop μ-loop
+returns c =
+    let a = c .before .before .before .before .args in
+    let l = c .before .loop in
+    let end : l .i ≡ a .count = omega arith in
+    done (rw end at (l .inv .1)) (at-done (digit (a .t1)) (a .places .now) (a .count) (a .count) (omega arith))
+
+pub lay-digits-spec : {M : Type 1} → statement M
+lay-digits-spec =
+    tie.close
+    (tie.spec
+    Inv-loop
+    μ-loop
+    loop-holds
+    shared-slice-read-wide
+    wide-requires
+    mul-out
+    array-read-out
+    cast-out
+    shr-out
+    cast-out-2
+    add-out
+    slice-write-out
+    add-i
+    loop-less
+    loop-again
+    add-result
+    same-length
+    returns)

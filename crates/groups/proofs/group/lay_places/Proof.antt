@@ -1,0 +1,97 @@
+-- Clock by clock: the places that pass from clock c on are left to lay. Assumes nothing.
+use mathlib.Core.Path.{_≡_}
+use mathlib.Core.List.{[]}
+use Prim.Native.Nat.{_+_, _-_, _%_, _≤_}
+use native.Mathlib.Nat.{mod-lt, sub-zero}
+use native.Mathlib.Omega.{arith}
+use lib.ListN.{length, getD, take}
+use Rattle.lists.specs.Over.{Laying}
+use Rattle.lists.proofs.Over.{start, more-piece, fits-piece, done}
+use Rattle.turbo.specs.Coded.{passed}
+use Rattle.groups.specs.Together.{passedFrom}
+use Rattle.groups.specs.Group.{placesOf, placesFrom}
+use Rattle.groups.proofs.Places.{placesLeft, places-room, places-more, places-done}
+use borrow.Author.Needs.{needs}
+use Rattle.groups.proofs.group.lay_places.Statement.{statement}
+use Rattle.groups.proofs.group.lay_places.Tie as tie
+
+abbrev Inv-loop : tie.InvT-loop
+Inv-loop period places₀ pattern to₀ c₀ places to c = (c ≤ 24) × Laying places₀ 0 (passedFrom (take period pattern) 0 (placesFrom 0 24)) places to (placesLeft pattern period c)
+
+abbrev μ-loop : tie.MeasureT-loop
+μ-loop period places₀ pattern to₀ c₀ places to c = 24 - c
+
+loop-holds : tie.Need-loop-holds Inv-loop μ-loop
+loop-holds c =
+    let a = c .before .args in
+    let p = c .before .pre in
+    let ten : length (a .t1) ≡ 10 = search needs in
+    let room = places-room (a .t1) (a .period) (p .0) (omega arith) (p .2) in
+    (search needs, rw sub-zero (start _ _ _ (omega (arith, rw sub-zero at room, p .3))))
+
+rem-flags : tie.Need-rem-flags Inv-loop μ-loop
+rem-flags c = search needs
+
+mul-flags : tie.Need-mul-flags Inv-loop μ-loop
+mul-flags c = omega (arith, mod-lt (c .before .loop .c) (c .before .before .before .pre .0))
+
+array-copy-out-flags : tie.Need-array-copy-out-flags Inv-loop μ-loop
+array-copy-out-flags c = omega (arith, mod-lt (c .before .loop .c) (c .before .before .before .pre .0))
+
+places-of-requires : tie.Need-places-of-requires Inv-loop μ-loop
+places-of-requires c κs = search needs
+
+lay-requires : tie.Need-lay-requires Inv-loop μ-loop
+lay-requires c κs =
+    let a = c .before .before .before .before .before .before .args in
+    let p = c .before .before .before .before .before .before .pre in
+    let l = c .before .before .before .before .loop in
+    let ten : length (a .t1) ≡ 10 = search needs in
+    let more = places-more (a .t1) (a .period) (p .0) (omega arith) (l .c) (omega arith) in
+    let clock = passed (getD (a .t1) (l .c % a .period) []) (placesOf (l .c)) in
+    (p .2 _, rw (c .before .places-of .ensures) (fits-piece clock (placesLeft (a .t1) (a .period) (l .c + 1)) (l .inv .1) more))
+
+add-c : tie.Need-add-c Inv-loop μ-loop
+add-c c = search needs
+
+loop-less : tie.Need-loop-less Inv-loop μ-loop
+loop-less c = search needs
+
+loop-again : tie.Need-loop-again Inv-loop μ-loop
+loop-again c =
+    let a = c .before .before .before .before .before .before .before .before .before .args in
+    let p = c .before .before .before .before .before .before .before .before .before .pre in
+    let l = c .before .before .before .before .before .before .before .loop in
+    let ten : length (a .t1) ≡ 10 = search needs in
+    let more = places-more (a .t1) (a .period) (p .0) (omega arith) (l .c) (omega arith) in
+    let laid = rw (c .before .before .before .before .places-of .ensures) at (c .before .before .lay .ensures) in
+    (search needs, more-piece _ _ (l .inv .1) more laid)
+
+same-length : tie.Need-same-length Inv-loop μ-loop
+same-length c = c .before .loop .inv .1 .long
+
+returns : tie.Need-returns Inv-loop μ-loop
+returns c =
+    let a = c .before .before .before .args in
+    let p = c .before .before .before .pre in
+    let l = c .before .loop in
+    let ten : length (a .t1) ≡ 10 = search needs in
+    done (l .inv .1) (places-done (a .t1) (a .period) (p .0) (omega arith) (l .c) (omega arith))
+
+pub lay-places-spec : {M : Type 1} → statement M
+lay-places-spec =
+    tie.close
+    (tie.spec
+    Inv-loop
+    μ-loop
+    loop-holds
+    rem-flags
+    mul-flags
+    array-copy-out-flags
+    places-of-requires
+    lay-requires
+    add-c
+    loop-less
+    loop-again
+    same-length
+    returns)

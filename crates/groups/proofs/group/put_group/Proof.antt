@@ -1,0 +1,76 @@
+-- The inputs, the taps of what they fed, and the registers after them. Assumes nothing.
+use mathlib.Core.Path.{ap, _∙_}
+use Rattle.encoder.specs.Number.{registerOf}
+use Rattle.encoder.specs.Inputs.{clocksAt}
+use Rattle.encoder.specs.Fed.{fedOn}
+use Rattle.encoder.proofs.Halves.{clocks-long, inputs-row}
+use Rattle.groups.proofs.Stands.{stands}
+use borrow.Author.Needs.{needs}
+use Rattle.groups.proofs.group.put_group.Statement.{statement}
+use Rattle.groups.proofs.group.put_group.Tie as tie
+
+packed-requires : tie.Need-packed-requires
+packed-requires c κs = search needs
+
+packed-requires-2 : tie.Need-packed-requires-2
+packed-requires-2 c κs = search needs
+
+many-requires : tie.Need-many-requires
+many-requires c κs = search needs
+
+many-requires-2 : tie.Need-many-requires-2
+many-requires-2 c κs = search needs
+
+y0-requires : tie.Need-y0-requires
+y0-requires c κs = search needs
+
+y1-requires : tie.Need-y1-requires
+y1-requires c κs = search needs
+
+y0-requires-2 : tie.Need-y0-requires-2
+y0-requires-2 c κs = search needs
+
+y1-requires-2 : tie.Need-y1-requires-2
+y1-requires-2 c κs = search needs
+
+last-requires : tie.Need-last-requires
+last-requires c κs = search needs
+
+last-requires-2 : tie.Need-last-requires-2
+last-requires-2 c κs = search needs
+
+returns : tie.Need-returns
+returns c =
+    let a = c .before .before .before .before .before .before .before .before .before .before .before .before .args in
+    let p = c .before .before .before .before .before .before .before .before .before .before .before .before .pre in
+    let ra = registerOf (a .a) in
+    let rb = registerOf (a .b) in
+    let us = clocksAt 24 (a .u .now) (a .s) in
+    let vs = clocksAt 24 (a .v .now) (a .s) in
+    let lu = clocks-long (a .u .now) (a .s) 24 (p .2) in
+    let lv = clocks-long (a .v .now) (a .s) 24 (p .3) in
+    let x = c .before .before .before .before .before .before .before .before .before .packed .ensures .0 in
+    let y = c .before .before .before .before .before .before .before .before .packed2 .ensures .0 in
+    let first = c .before .before .before .before .before .before .before .many .ensures ∙ ap (fedOn ra) (inputs-row us lu x) in
+    let second = c .before .before .before .before .before .before .many2 .ensures ∙ ap (fedOn rb) (inputs-row vs lv y) in
+    record {
+      stands = stands ra rb us vs lu lv _ _ _ _ _ _ _ _ x first (c .before .before .before .before .before .y0 .ensures) (c .before .before .before .before .y1 .ensures) y second (c .before .before .before .y02 .ensures) (c .before .before .y12 .ensures);
+      first = c .before .last .ensures ra us first;
+      second = c .last2 .ensures rb vs second;
+    }
+
+pub put-group-spec : {M : Type 1} → statement M
+put-group-spec =
+    tie.close
+    (tie.spec
+    packed-requires
+    packed-requires-2
+    many-requires
+    many-requires-2
+    y0-requires
+    y1-requires
+    y0-requires-2
+    y1-requires-2
+    last-requires
+    last-requires-2
+    returns)

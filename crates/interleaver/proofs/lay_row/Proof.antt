@@ -1,0 +1,197 @@
+-- Pair by pair: those from j on are left to lay. Assumes nothing.
+use mathlib.Core.Path.{_≡_, _∙_}
+use Prim.Native.Nat.{_^_, _<_, ℕ, _+_, _-_, _*_, _≤_}
+use native.Mathlib.Nat.{mod-lt}
+use native.Mathlib.Omega.{arith}
+use lib.ListN.{length, getD, length-set}
+use mir.Val.{Fits}
+use mir.Syntax.{w32}
+use borrow.Author.Needs.{needs}
+use Rattle.lists.specs.Over.{Laying}
+use Rattle.lists.proofs.Over.{fits, done}
+use Rattle.links.proofs.Facts.{sizes}
+use Rattle.interleaver.proofs.Laid.{place-code, row-small, pair-small, inputs, pairsFrom, pairs-start, pairs-done, pairs-more, pairs-next, pairs-room, place-inside}
+use Rattle.turbo.proofs.Permutation.{digitsPlace}
+use Rattle.interleaver.proofs.lay_row.Statement.{statement}
+use Rattle.interleaver.proofs.lay_row.Tie as tie
+
+abbrev Inv-loop : tie.InvT-loop
+Inv-loop row i u v₀ k2 t q p j₀ v j =
+    (j ≤ row .k2) × Laying v₀ (2 * (i * row .k2)) (inputs row u (2 * (i * row .k2)) (2 * row .k2)) v (2 * (i * row .k2 + j)) (pairsFrom row u i j)
+
+abbrev μ-loop : tie.MeasureT-loop
+μ-loop row i u v₀ k2 t q p j₀ v j = row .k2 - j
+
+-- a prime is a number of 32 bits
+held : (c : tie.After-primes Inv-loop μ-loop) (n : ℕ) → Fits w32 (getD (c .before .before .before .args .row .primes) n 0)
+held c n = search needs
+
+small : (c : tie.After-primes Inv-loop μ-loop) (n : ℕ) → getD (c .before .before .before .args .row .primes) n 0 < 2 ^ 32
+small c n = omega (arith, held c n)
+
+cast-k2 : tie.Need-cast-k2 Inv-loop μ-loop
+cast-k2 c = search needs
+
+mul-t : tie.Need-mul-t Inv-loop μ-loop
+mul-t c =
+    let st = c .before .before .before .before in
+    record { fits = omega (arith, row-small (st .args .row) (st .pre .0) (st .args .i) (st .pre .1)) }
+
+add-t : tie.Need-add-t Inv-loop μ-loop
+add-t c =
+    let st = c .before .before .before .before in
+    record { fits = omega (arith, row-small (st .args .row) (st .pre .0) (st .args .i) (st .pre .1)) }
+
+cast-t : tie.Need-cast-t Inv-loop μ-loop
+cast-t c = search needs
+
+rem-t : tie.Need-rem-t Inv-loop μ-loop
+rem-t c = sizes (c .before .before .before .before .before .args .row) (c .before .before .before .before .before .pre .0) .half
+
+add-q : tie.Need-add-q Inv-loop μ-loop
+add-q c = search needs
+
+sub-p : tie.Need-sub-p Inv-loop μ-loop
+sub-p c = search needs
+
+mul-p : tie.Need-mul-p Inv-loop μ-loop
+mul-p c = search needs
+
+array-read-p : tie.Need-array-read-p Inv-loop μ-loop
+array-read-p c = search needs
+
+cast-p : tie.Need-cast-p Inv-loop μ-loop
+cast-p c = search needs
+
+loop-holds : tie.Need-loop-holds Inv-loop μ-loop
+loop-holds c =
+    let st = c .before .before .before .before .before in
+    let a = st .args in
+    (search needs, pairs-start (a .row) (a .u .now) (st .pre .0) (a .i) (st .pre .1) (a .v .now) (st .pre .3))
+
+mul-s : tie.Need-mul-s Inv-loop μ-loop
+mul-s c =
+    let st = c .before .before .before .before .before .before .before in
+    record { fits = omega (arith, pair-small (st .args .row) (st .pre .0) (st .args .i) (c .before .loop .j) (st .pre .1) (omega arith)) }
+
+add-s : tie.Need-add-s Inv-loop μ-loop
+add-s c =
+    let st = c .before .before .before .before .before .before .before in
+    record { fits = omega (arith, pair-small (st .args .row) (st .pre .0) (st .args .i) (c .before .loop .j) (st .pre .1) (omega arith)) }
+
+mul-s-2 : tie.Need-mul-s-2 Inv-loop μ-loop
+mul-s-2 c =
+    let st = c .before .before .before .before .before .before .before in
+    record { fits = omega (arith, pair-small (st .args .row) (st .pre .0) (st .args .i) (c .before .loop .j) (st .pre .1) (omega arith)) }
+
+place-requires : tie.Need-place-requires Inv-loop μ-loop
+place-requires c κs =
+    let st = c .before .before .before .before .before .before .before in
+    (st .pre .0, mod-lt _ (sizes (st .args .row) (st .pre .0) .half), search (small (c .before .before .before .before)), search needs, search needs)
+
+-- the first place of the pair, and that it is one of the block
+first-is : (c : tie.After-place Inv-loop μ-loop) → c .place .result ≡ digitsPlace (c .before .before .before .before .before .before .before .before .args .row) 0 (c .before .before .before .before .before .before .before .before .args .i) (c .before .before .loop .j)
+first-is c = c .place .ensures ∙ place-code (c .before .before .before .before .before .before .before .before .args .row) 0 (c .before .before .before .before .before .before .before .before .args .i) (c .before .before .loop .j)
+
+first-inside : (c : tie.After-place Inv-loop μ-loop) → (1 ≤ c .place .result) × (c .place .result ≤ length (c .before .before .before .before .before .before .before .before .args .u .now))
+first-inside c =
+    let st = c .before .before .before .before .before .before .before .before in
+    rw (first-is c) (place-inside (st .args .row) (st .args .u .now) (st .pre .0) (st .pre .2) (st .pre .4) 0 (st .args .i) (c .before .before .loop .j) (omega arith) (omega arith))
+
+sub-v : tie.Need-sub-v Inv-loop μ-loop
+sub-v c = first-inside c .0
+
+shared-slice-read-v : tie.Need-shared-slice-read-v Inv-loop μ-loop
+shared-slice-read-v c = omega (arith, first-inside (c .before))
+
+slice-write-v : tie.Need-slice-write-v Inv-loop μ-loop
+slice-write-v c =
+    let st = c .before .before .before .before .before .before .before .before .before in
+    let at = c .before .before .before .loop in
+    fits _ _ (at .inv .1) (pairs-more (st .args .row) (st .args .u .now) (st .pre .0) (st .pre .2) (st .pre .4) (st .args .i) (at .j) (omega arith))
+
+place-requires-2 : tie.Need-place-requires-2 Inv-loop μ-loop
+place-requires-2 c κs =
+    let st = c .before .before .before .before .before .before .before .before .before in
+    (st .pre .0, mod-lt _ (sizes (st .args .row) (st .pre .0) .half), search (small (c .before .before .before .before .before .before)), search needs, search needs)
+
+-- the second
+second-is : (c : tie.After-place2 Inv-loop μ-loop) → c .place2 .result ≡ digitsPlace (c .before .before .before .before .before .before .before .before .before .before .args .row) 1 (c .before .before .before .before .before .before .before .before .before .before .args .i) (c .before .before .before .before .loop .j)
+second-is c = c .place2 .ensures ∙ place-code (c .before .before .before .before .before .before .before .before .before .before .args .row) 1 (c .before .before .before .before .before .before .before .before .before .before .args .i) (c .before .before .before .before .loop .j)
+
+second-inside : (c : tie.After-place2 Inv-loop μ-loop) → (1 ≤ c .place2 .result) × (c .place2 .result ≤ length (c .before .before .before .before .before .before .before .before .before .before .args .u .now))
+second-inside c =
+    let st = c .before .before .before .before .before .before .before .before .before .before in
+    rw (second-is c) (place-inside (st .args .row) (st .args .u .now) (st .pre .0) (st .pre .2) (st .pre .4) 1 (st .args .i) (c .before .before .before .before .loop .j) (omega arith) (omega arith))
+
+sub-v-2 : tie.Need-sub-v-2 Inv-loop μ-loop
+sub-v-2 c = second-inside c .0
+
+shared-slice-read-v-2 : tie.Need-shared-slice-read-v-2 Inv-loop μ-loop
+shared-slice-read-v-2 c = omega (arith, second-inside (c .before))
+
+add-v : tie.Need-add-v Inv-loop μ-loop
+add-v c =
+    let st = c .before .before .before .before .before .before .before .before .before .before .before in
+    record { fits = omega (arith, pair-small (st .args .row) (st .pre .0) (st .args .i) (c .before .before .before .before .before .loop .j) (st .pre .1) (omega arith)) }
+
+slice-write-v-2 : tie.Need-slice-write-v-2 Inv-loop μ-loop
+slice-write-v-2 c =
+    let st = c .before .before .before .before .before .before .before .before .before .before .before in
+    let at = c .before .before .before .before .before .loop in
+    simp length-set (pairs-room (st .args .row) (st .args .u .now) (st .pre .0) (st .pre .2) (st .pre .4) (st .args .i) (at .j) (omega arith) (at .inv .1))
+
+add-j : tie.Need-add-j Inv-loop μ-loop
+add-j c = search needs
+
+loop-less : tie.Need-loop-less Inv-loop μ-loop
+loop-less c = search needs
+
+loop-again : tie.Need-loop-again Inv-loop μ-loop
+loop-again c =
+    let st = c .before .before .before .before .before .before .before .before .before .before .before in
+    let at = c .before .before .before .before .before .loop in
+    (search needs, rw (first-is (c .before .before .before), second-is (c .before)) (pairs-next (st .args .row) (st .args .u .now) (st .pre .0) (st .pre .2) (st .pre .4) (st .args .i) (at .j) (omega arith) (at .inv .1)))
+
+same-length : tie.Need-same-length Inv-loop μ-loop
+same-length c = c .before .loop .inv .1 .long
+
+returns : tie.Need-returns Inv-loop μ-loop
+returns c =
+    let st = c .before .before .before .before .before .before .before in
+    done (c .before .loop .inv .1) (pairs-done (st .args .row) (st .args .u .now) (st .args .i) (c .before .loop .j) (omega arith)) .1
+
+pub lay-row-spec : {M : Type 1} → statement M
+lay-row-spec =
+    tie.close
+    (tie.spec
+    Inv-loop
+    μ-loop
+    cast-k2
+    mul-t
+    add-t
+    cast-t
+    rem-t
+    add-q
+    sub-p
+    mul-p
+    array-read-p
+    cast-p
+    loop-holds
+    mul-s
+    add-s
+    mul-s-2
+    place-requires
+    sub-v
+    shared-slice-read-v
+    slice-write-v
+    place-requires-2
+    sub-v-2
+    shared-slice-read-v-2
+    add-v
+    slice-write-v-2
+    add-j
+    loop-less
+    loop-again
+    same-length
+    returns)

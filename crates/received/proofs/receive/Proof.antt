@@ -1,0 +1,49 @@
+-- Copied, unscrambled, and its X taken out. Assumes nothing.
+use mathlib.Core.Path.{_∙_}
+use Rattle.received.proofs.Unscrambled.{plain-bits, received-is}
+use borrow.Author.Needs.{needs}
+use Rattle.received.proofs.receive.Statement.{statement}
+use Rattle.received.proofs.receive.Tie as tie
+
+copy-requires : tie.Need-copy-requires
+copy-requires c κs = search needs
+
+load-requires : tie.Need-load-requires
+load-requires c κs = search needs
+
+scramble-requires : tie.Need-scramble-requires
+scramble-requires c κs = search needs
+
+take-x-requires : tie.Need-take-x-requires
+take-x-requires c κs =
+    let start = c .before .before .before .before .before .before .before .before .before .before .before .before .before .before in
+    let a = start .args in (
+      start .pre .0,
+      start .pre .1,
+      c .before .before .before .before .scramble .kept .1 .1 .0 ∙ c .before .before .before .before .before .before .before .before .before .copy .kept .1 .0 ∙ start .pre .4,
+      plain-bits (a .row) (a .came .now) _ _ _ _ (start .pre .3) (start .pre .2) (c .before .before .before .before .before .before .before .before .before .copy .ensures) (c .before .before .before .before .before .before .load .ensures) (c .before .before .before .before .scramble .ensures),
+    )
+
+same-length : tie.Need-same-length
+same-length c = search needs
+
+same-length-2 : tie.Need-same-length-2
+same-length-2 c = search needs
+
+returns : tie.Need-returns
+returns c =
+    let start = c .before .before .before .before .before .before .before .before .before .before .before .before .before .before .before .before .before in
+    let a = start .args in
+    received-is (a .row) (a .came .now) _ _ _ _ (start .pre .3) (start .pre .2) (c .before .before .before .before .before .before .before .before .before .before .before .before .copy .ensures) (c .before .before .before .before .before .before .before .before .before .load .ensures) (c .before .before .before .before .before .before .before .scramble .ensures) _ (c .before .before .take-x .ensures)
+
+pub receive-spec : {M : Type 1} → statement M
+receive-spec =
+    tie.close
+    (tie.spec
+    copy-requires
+    load-requires
+    scramble-requires
+    take-x-requires
+    same-length
+    same-length-2
+    returns)

@@ -1,0 +1,76 @@
+// The k bits of what came: unscrambled, and then the X of every clock.
+use links::Row;
+ghost use mathlib.Core.Path.{_≡_};
+ghost use mathlib.Core.Bool.{true};
+ghost use mathlib.Core.List.{map};
+ghost use lib.Dec.{T};
+ghost use lib.ListN.{length};
+ghost use Rattle.bits.specs.Bits.{isOne, byte, allBits};
+ghost use Rattle.distance.specs.Coding.{xBits, received};
+ghost use Rattle.links.specs.Good.{goodRow};
+ghost use Rattle.links.specs.Patterns.{total};
+ghost use Rattle.links.specs.Sizes.{imageLength};
+ghost use Rattle.turbo.specs.Parity.{countsOf};
+ghost use Rattle.blocks.specs.Coding.{codingOf};
+
+// Copies bytes.
+fn copy(from: &[u8], to: &mut [u8])
+    requires { ⌜ length (now to) ≡ length (now from) ⌝ }
+    ensures { λ _. ⌜ now (to .exit) ≡ now (from .entry) ⌝ }
+{
+    for i in 0..from.len() {
+        to[i] = from[i];
+    }
+}
+
+// How many bits the flags of a clock pass on.
+fn total(flags: [u8; 6]) -> usize
+    ensures { λ r. ⌜ r ≡ total flags ⌝ }
+{
+    let mut sum: usize = 0;
+    for i in 0..6 {
+        sum += flags[i] as usize;
+    }
+    sum
+}
+
+// The same for each clock of a pattern.
+fn totals(pattern: [[u8; 6]; 10]) -> [usize; 10]
+    ensures { λ r. ⌜ r ≡ map total pattern ⌝ }
+{
+    let mut sums = [0usize; 10];
+    for c in 0..10 {
+        sums[c] = total(pattern[c]);
+    }
+    sums
+}
+
+// Takes the X of every clock out of coded bits: each stands behind what the clocks before it pass on.
+fn take_x(row: Row, coded: &[u8], u: &mut [u8])
+    requires { ⌜ T (goodRow row) × (length (now u) ≡ row .k) × (length (now coded) ≡ imageLength row) × (allBits (now coded) ≡ true) ⌝ }
+    ensures { λ _. ⌜ now (u .exit) ≡ map byte (xBits (countsOf row) (map isOne (now (coded .entry)))) ⌝ }
+{
+    let name = row.pattern;
+    let sums = totals(links::pattern(name));
+    let clocks = links::clocks(name);
+    let mut at: usize = 0;
+    let mut clock: usize = 0;
+    for s in 0..u.len() {
+        u[s] = coded[at];
+        at += sums[clock];
+        clock += 1;
+        if clock == clocks {
+            clock = 0;
+        }
+    }
+}
+
+// The k bits of what came; plain is scratch for all of it unscrambled.
+pub fn receive(row: Row, came: &[u8], plain: &mut [u8], u: &mut [u8])
+    requires { ⌜ T (goodRow row) × (length (now u) ≡ row .k) × (length (now came) ≡ imageLength row) × (allBits (now came) ≡ true) × (length (now plain) ≡ imageLength row) ⌝ }
+    ensures { λ _. ⌜ now (u .exit) ≡ map byte (received (codingOf row) (map isOne (now (came .entry)))) ⌝ }
+{
+    copy(came, plain);
+    scrambler::scramble(scrambler::load(), came.len(), plain);
+    take_x(row, plain, u);
+}
