@@ -1,4 +1,2 @@
-pub mod Accepting
-pub mod BitsOver
-pub mod Comparing
+pub mod Candidate
 pub mod Mending

@@ -17,7 +17,7 @@ use Rattle.check32.specs.Check.{register}
 use Rattle.check32.specs.Residue.{bitsAfter}
 use Rattle.distance.specs.Reading.{wrongAfter, wrongPlace}
 use Rattle.distance.proofs.Candidate.{candidate-row, candidate-flip, candidate-none}
-use Rattle.block_reader.specs.Reading.{Mends}
+use Rattle.block_reader.specs.Mends.{Mends}
 
 -- ---- a bit inverted in its byte
 inverted : (x : ℕ) → x ≤ 1 → isOne (1 - x) ≡ not (isOne x)

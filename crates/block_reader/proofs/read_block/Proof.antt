@@ -1,25 +1,44 @@
 -- Its k bits, mended; and what is answered for the block that they make. Assumes nothing.
-use mathlib.Core.Path.{_∙_}
+use mathlib.Core.Path.{_≡_, _∙_}
+use mathlib.Core.Bool.{true}
 use mathlib.Core.List.{map}
-use lib.ListN.{length-map}
+use lib.ListN.{length, length-map}
 use borrow.Author.Tests.{not-true, not-false}
+use Rattle.lists.proofs.Tests.{holds, fails}
 use Rattle.answers.proofs.Wrote.{refuses}
 use Rattle.bits.specs.Bits.{isOne}
 use Rattle.bits.proofs.Bits.{all-bytes}
+use Rattle.links.specs.Sizes.{imageLength}
 use Rattle.distance.specs.Coding.{received}
 use Rattle.blocks.specs.Coding.{codingOf}
-use Rattle.block_reader.proofs.Accepting.{none-closes, one-closes}
+use Rattle.block_reader.proofs.Candidate.{none-closes, over-refused, within-one}
 use borrow.Author.Needs.{needs}
 use Rattle.block_reader.proofs.read_block.Statement.{statement}
 use Rattle.block_reader.proofs.read_block.Tie as tie
+
+-- ---- where the k bits were received, and the arguments
+abbrev taken : tie.After-mend → tie.After-receive
+taken c = c .before .before .before .before .before .before
+
+abbrev start : tie.After-receive → tie.Start
+start c = c .before .before .before .before .before .before .before
+
+abbrev mended : tie.Else1 → tie.After-mend
+mended c = c .before .before .before
+
+came-long : (c : tie.After-receive) → length (map isOne (start c .args .came .now)) ≡ imageLength (start c .args .row)
+came-long c = length-map (start c .args .came .now) isOne ∙ start c .pre .1
+
+closed : (c : tie.Else1) → mended c .mend .result ≡ true
+closed c = not-false (mended c .mend .result) (c .if1 .left)
 
 receive-requires : tie.Need-receive-requires
 receive-requires c κs = search needs
 
 mend-requires : tie.Need-mend-requires
 mend-requires c κs =
-    let a = c .before .before .before .before .before .before .before .before .before .before .before .before .args in
-    rw (c .before .before .before .before .before .receive .ensures) (all-bytes (received (codingOf (a .row)) (map isOne (a .came .now))))
+    let at = c .before .before .before .before .before in
+    rw (at .receive .ensures) (all-bytes (received (codingOf (start at .args .row)) (map isOne (start at .args .came .now))))
 
 refuse-requires : tie.Need-refuse-requires
 refuse-requires c κs = search needs
@@ -32,24 +51,15 @@ same-length-2 c = search needs
 
 returns : tie.Need-returns
 returns c =
-    let start = c .before .before .before .before .before .before .before .before .before .before .before .before .before .before .before .before .before in
-    let a = start .args in
-    refuses
-    (none-closes (a .row) (start .pre .0) (map isOne (a .came .now)) (length-map (a .came .now) isOne ∙ start .pre .1) _ _ _ (c .before .before .before .before .before .before .before .before .before .before .receive .ensures) (c .before .before .before .before .mend .ensures)
-    (not-true (c .before .before .before .before .mend .result) (c .before .if1 .taken)))
-    (c .refuse .ensures)
+    let m = c .before .before .before .before in
+    let at = taken m in
+    refuses (none-closes _ (start at .pre .0) _ (came-long at) _ _ _ (at .receive .ensures) (m .mend .ensures) (not-true (m .mend .result) (c .before .if1 .taken))) (c .refuse .ensures)
 
-accept-requires : tie.Need-accept-requires
-accept-requires c κs =
-    let start = c .before .before .before .before .before .before .before .before .before .before .before .before .before .before .before .before .before .before .before in (
-      start .pre .0,
-      c .before .before .before .before .before .before .mend .kept .0 ∙ c .before .before .before .before .before .before .before .before .before .before .before .before .receive .kept .1 .1 .1 .0 ∙ start .pre .3,
-      c .before .before .before .before .before .before .mend .ensures .bits,
-      start .pre .1,
-      start .pre .2,
-      c .before .before .before .before .before .before .before .before .before .before .before .before .receive .kept .1 .1 .0 ∙ start .pre .4,
-      start .pre .5,
-    )
+over-zero-requires : tie.Need-over-zero-requires
+over-zero-requires c κs = search needs
+
+refuse-requires-2 : tie.Need-refuse-requires-2
+refuse-requires-2 c κs = search needs
 
 same-length-3 : tie.Need-same-length-3
 same-length-3 c = search needs
@@ -57,16 +67,47 @@ same-length-3 c = search needs
 same-length-4 : tie.Need-same-length-4
 same-length-4 c = search needs
 
+returns-2 : tie.Need-returns-2
+returns-2 c =
+    let tested = c .before .before in
+    let passed = tested .before .before in
+    let at = taken (mended passed) in
+    refuses
+    (over-refused _ (start at .pre .0) _ (came-long at) _ _ _ (at .receive .ensures) (mended passed .mend .ensures) (closed passed) (fails (tested .over-zero .ensures) (c .before .if2 .taken)))
+    (c .refuse2 .ensures)
+
+accept-requires : tie.Need-accept-requires
+accept-requires c κs =
+    let m = mended (c .before .before .before .before .before .before) in
+    let at = taken m in (
+      start at .pre .0,
+      m .mend .kept .0 ∙ at .receive .kept .1 .1 .1 .0 ∙ start at .pre .3,
+      m .mend .ensures .bits,
+      start at .pre .1,
+      start at .pre .2,
+      at .receive .kept .1 .1 .0 ∙ start at .pre .4,
+      start at .pre .5,
+    )
+
 same-length-5 : tie.Need-same-length-5
 same-length-5 c = search needs
 
-returns-2 : tie.Need-returns-2
-returns-2 c =
-    let start = c .before .before .before .before .before .before .before .before .before .before .before .before .before .before .before .before .before .before .before .before .before .before .before .before in
-    let a = start .args in
-    rw (one-closes (a .row) (start .pre .0) (map isOne (a .came .now)) (length-map (a .came .now) isOne ∙ start .pre .1) _ _ _ (c .before .before .before .before .before .before .before .before .before .before .before .before .before .before .before .before .before .receive .ensures) (c .before .before .before .before .before .before .before .before .before .before .before .mend .ensures)
-    (not-false (c .before .before .before .before .before .before .before .before .before .before .before .mend .result) (c .before .before .before .before .before .before .before .before .if1 .left)))
-    (c .before .before .before .before .accept .ensures)
+same-length-6 : tie.Need-same-length-6
+same-length-6 c = search needs
+
+same-length-7 : tie.Need-same-length-7
+same-length-7 c = search needs
+
+returns-3 : tie.Need-returns-3
+returns-3 c =
+    let accepted = c .before .before .before .before in
+    let zero = accepted .before .before .before .before in
+    let passed = zero .before .before .before in
+    let m = mended passed in
+    let at = taken m in
+    let long = m .mend .kept .0 ∙ at .receive .kept .1 .1 .1 .0 ∙ start at .pre .3 in
+    rw (within-one _ (start at .pre .0) _ (came-long at) _ _ _ (at .receive .ensures) (m .mend .ensures) (closed passed) long (holds (zero .before .over-zero .ensures) (zero .if2 .left)))
+    (accepted .accept .ensures)
 
 pub read-block-spec : {M : Type 1} → statement M
 read-block-spec =
@@ -78,8 +119,13 @@ read-block-spec =
     same-length
     same-length-2
     returns
-    accept-requires
+    over-zero-requires
+    refuse-requires-2
     same-length-3
     same-length-4
+    returns-2
+    accept-requires
     same-length-5
-    returns-2)
+    same-length-6
+    same-length-7
+    returns-3)

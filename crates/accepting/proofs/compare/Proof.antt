@@ -8,11 +8,11 @@ use lib.ListN.{length}
 use Rattle.bits.specs.Bits.{isOne}
 use Rattle.bits.specs.Row.{differences}
 use Rattle.links.proofs.Facts.{sizes}
-use Rattle.block_reader.proofs.Comparing.{image-long, image-bits, image-there}
+use Rattle.accepting.proofs.Comparing.{image-long, image-bits, image-there}
 use Rattle.images.proofs.Lent.{scratch-enough, length-lent}
 use borrow.Author.Needs.{needs}
-use Rattle.block_reader.proofs.compare.Statement.{statement}
-use Rattle.block_reader.proofs.compare.Tie as tie
+use Rattle.accepting.proofs.compare.Statement.{statement}
+use Rattle.accepting.proofs.compare.Tie as tie
 
 short : (c : tie.After-block) → length (c .before .before .before .before .args .u .now) ≤ 5616
 short c = let start = c .before .before .before .before in omega (arith, start .pre .1, sizes _ (start .pre .0) .block)

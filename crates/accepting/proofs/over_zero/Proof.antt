@@ -5,10 +5,10 @@ use native.Mathlib.Omega.{arith}
 use lib.ListN.{length}
 use Rattle.links.proofs.Facts.{sizes}
 use Rattle.blocks.specs.Coding.{codingOf}
-use Rattle.block_reader.proofs.BitsOver.{leftOver, over-one, over-next, over-done}
+use Rattle.accepting.proofs.BitsOver.{leftOver, over-one, over-next, over-done}
 use borrow.Author.Needs.{needs}
-use Rattle.block_reader.proofs.over_zero.Statement.{statement}
-use Rattle.block_reader.proofs.over_zero.Tie as tie
+use Rattle.accepting.proofs.over_zero.Statement.{statement}
+use Rattle.accepting.proofs.over_zero.Tie as tie
 
 abbrev Inv-loop : tie.InvT-loop
 Inv-loop u end i₀ i = (i₀ ≤ i) × (i ≤ end) × (end ≤ length u) × (leftOver u end i ≡ leftOver u end i₀)

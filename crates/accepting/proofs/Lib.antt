@@ -1,0 +1,3 @@
+pub mod BitsOver
+pub mod Comparing
+pub mod Within
