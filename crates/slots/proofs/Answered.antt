@@ -23,7 +23,8 @@ use Rattle.words.specs.Calls.{readWord, found}
 use Rattle.words.proofs.Exact.{near-found}
 use Rattle.slots.specs.Burst.{training, trainingLength, headLength, headPart, trainingPart, wordPart, blockPart}
 use Rattle.slots.specs.Near.{NearHead, Near}
-use Rattle.slots.specs.Calls.{trainingWrong, slotWord, readHead, both, joined, reading, readSlot}
+use Rattle.slots.specs.Head.{foundHead, trainingWrong, readHead}
+use Rattle.slots.specs.Calls.{both, joined, reading, readSlot}
 use Rattle.slots.proofs.Calls.{word-slot, head-word, read-joined}
 use Rattle.slots.proofs.Links.{slot-offered}
 use Rattle.slots.proofs.Parts.{part-of-bytes, rest-of-bytes}
@@ -42,15 +43,14 @@ module _ (came : List Bool) (link wordWrong : ℕ) (n : NearHead came link wordW
       ap readWord (part-of-bytes came 32 trainingLength)
       ∙ near-found (wordPart came) (length-take-le 32 (drop trainingLength came) (omega (arith, n .long, length-drop trainingLength came))) link wordWrong (n .word)
 
-  head-read : readHead (map byte came) ≡ found link wordWrong
+  head-read : readHead (map byte came) ≡ foundHead link wordWrong 0
   head-read =
-      head-word (map byte came) (omega (arith, length-map came byte, n .long)) head-bits trained
-      ∙ ap slotWord word-read
-      ∙ word-slot (found link wordWrong) refl (n .slot)
+      head-word (map byte came) (omega (arith, length-map came byte, n .long)) head-bits word-read trained refl
+      ∙ word-slot (found link wordWrong) 0 refl (n .slot)
 
   -- the rest is read as a block, and joined with it
   pub rest-joined : (room : ℕ) {block : Outcome Block} → readBlock link (map byte (blockPart came)) room ≡ block
-      → readSlot (map byte came) room ≡ joined (found link wordWrong) block
+      → readSlot (map byte came) room ≡ joined (foundHead link wordWrong 0) block
   rest-joined room e = read-joined (map byte came) room (rw head-read) ∙ rw (head-read, rest-of-bytes came, e)
 
 pub burst-answered : (came : List Bool) (link wordWrong : ℕ) (u : List Bool) → Near came link wordWrong u → (room : ℕ) → bytesHeld (rowOf link) ≤ room

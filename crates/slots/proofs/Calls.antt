@@ -1,53 +1,55 @@
 -- When reading a slot burst is answered and when it is refused, one law for each way.
 -- Assumes nothing.
-use mathlib.Core.Path.{_≡_}
+use mathlib.Core.Path.{_≡_, _∙_}
 use mathlib.Core.Bool.{true, false}
 use mathlib.Core.List.{List}
 use Prim.Native.Nat.{ℕ, _<_, _≤_}
 use lib.ListN.{length}
 use borrow.Author.Tests.{lt-ltb, le-ltb, eq-eqb, ne-eqb}
-use Rattle.answers.specs.Numbers.{done, notOffered, wrongLength, noBit, noTraining}
+use Rattle.answers.specs.Numbers.{done, notOffered, wrongLength, noBit, noTraining, noWord}
 use Rattle.bits.specs.Bits.{allBits}
 use Rattle.blocks.specs.Calls.{readBlock}
 use Rattle.words.specs.declared.Word.{Word}
-use Rattle.words.specs.Calls.{readWord, refused as refusedWord}
+use Rattle.words.specs.Calls.{readWord}
 use Rattle.slots.specs.Burst.{headLength, headPart, wordPart, blockPart, isSlotLink}
-use Rattle.slots.specs.Calls.{trainingWrong, slotWord, readHead, refused, joined, readSlot}
+use Rattle.slots.specs.Head.{refusedHead, foundHead, trainingWrong, namedHead, readHead}
+use Rattle.slots.specs.Calls.{refused, joined, readSlot}
 
 -- ---- the word of the head
-module _ (word : Word) where
-  pub word-refused : (word .status ≡ done → ⊥) → slotWord word ≡ word
-  unfolding slotWord
+module _ (word : Word) (wrong : ℕ) where
+  pub word-refused : (word .status ≡ done → ⊥) → namedHead word wrong ≡ refusedHead noWord
+  unfolding namedHead
   word-refused h = rw (ne-eqb (word .status) done h)
 
   module _ (read : word .status ≡ done) where
-    pub word-no-slot : isSlotLink (word .number) ≡ false → slotWord word ≡ refusedWord notOffered
-    unfolding slotWord
+    pub word-no-slot : isSlotLink (word .number) ≡ false → namedHead word wrong ≡ refusedHead notOffered
+    unfolding namedHead
     word-no-slot h = rw (eq-eqb (word .status) done read, h)
 
-    pub word-slot : isSlotLink (word .number) ≡ true → slotWord word ≡ word
-    unfolding slotWord
+    pub word-slot : isSlotLink (word .number) ≡ true → namedHead word wrong ≡ foundHead (word .number) (word .wrong) wrong
+    unfolding namedHead
     word-slot h = rw (eq-eqb (word .status) done read, h)
 
 -- ---- the head
 module _ (burst : List ℕ) where
-  pub head-short : length burst < headLength → readHead burst ≡ refusedWord wrongLength
+  pub head-short : length burst < headLength → readHead burst ≡ refusedHead wrongLength
   unfolding readHead
   head-short h = rw (lt-ltb (length burst) headLength h)
 
   module _ (long : headLength ≤ length burst) where
-    pub head-no-bit : allBits (headPart burst) ≡ false → readHead burst ≡ refusedWord noBit
+    pub head-no-bit : allBits (headPart burst) ≡ false → readHead burst ≡ refusedHead noBit
     unfolding readHead
     head-no-bit h = rw (le-ltb (length burst) headLength long, h)
 
     module _ (all : allBits (headPart burst) ≡ true) where
-      pub head-no-training : (trainingWrong burst ≡ 0 → ⊥) → readHead burst ≡ refusedWord noTraining
+      pub head-no-training : (trainingWrong burst ≡ 0 → ⊥) → readHead burst ≡ refusedHead noTraining
       unfolding readHead
       head-no-training h = rw (le-ltb (length burst) headLength long, all, ne-eqb (trainingWrong burst) 0 h)
 
-      pub head-word : trainingWrong burst ≡ 0 → readHead burst ≡ slotWord (readWord (wordPart burst))
+      -- with its training, a head goes by its word
+      pub head-word : {word : Word} {wrong : ℕ} → readWord (wordPart burst) ≡ word → trainingWrong burst ≡ wrong → wrong ≡ 0 → readHead burst ≡ namedHead word wrong
       unfolding readHead
-      head-word h = rw (le-ltb (length burst) headLength long, all, eq-eqb (trainingWrong burst) 0 h)
+      head-word r t h = rw (le-ltb (length burst) headLength long, all, eq-eqb (trainingWrong burst) 0 (t ∙ h), r, t)
 
 -- ---- reading
 module _ (burst : List ℕ) (room : ℕ) where
@@ -56,6 +58,6 @@ module _ (burst : List ℕ) (room : ℕ) where
   read-refused h = rw (ne-eqb (readHead burst .status) done h)
 
   pub read-joined : readHead burst .status ≡ done
-      → readSlot burst room ≡ joined (readHead burst) (readBlock (readHead burst .number) (blockPart burst) room)
+      → readSlot burst room ≡ joined (readHead burst) (readBlock (readHead burst .link) (blockPart burst) room)
   unfolding readSlot
   read-joined h = rw (eq-eqb (readHead burst .status) done h)

@@ -1,11 +1,17 @@
--- The links that have slot bursts are offered, and have link words.
+-- The links that have slot bursts are offered, and have link words and rows.
 -- Assumes nothing.
 use mathlib.Core.Path.{_≡_, refl, sym}
 use mathlib.Core.Bool.{Bool, true, false, true≢false, _||_}
-use Prim.Native.Nat.{ℕ, _<_}
+use Prim.Native.Nat.{ℕ, _<_, _≤_}
+use native.Mathlib.Omega.{arith}
 use lib.Dec.{eqb, ltb}
 use borrow.Author.Tests.{eqb-true, ltb-true}
-use Rattle.links.specs.Rows.{rows, placeIn, offered}
+use Rattle.links.specs.Good.{longestImage}
+use Rattle.links.specs.Rows.{rows, placeIn, place, offered, rowOf}
+use Rattle.links.specs.Sizes.{imageLength}
+use Rattle.links.proofs.Facts.{sizes}
+use Rattle.links.proofs.Good.{good}
+use Rattle.links.proofs.Search.{row-count, offered-place}
 use Rattle.slots.specs.Burst.{isSlotLink}
 
 -- a test that holds of each of them
@@ -26,3 +32,10 @@ slot-offered link h = each offered refl refl refl link h
 
 pub slot-has-word : (link : ℕ) → isSlotLink link ≡ true → link < 64
 slot-has-word link h = ltb-true link 64 (each (λ n. ltb n 64) refl refl refl link h)
+
+-- the place that was found for one is in the table, and its images are not too long
+pub slot-inside : (link : ℕ) → isSlotLink link ≡ true → {at : ℕ} → at ≡ place link → at < 22
+slot-inside link h found = omega (arith, offered-place link (slot-offered link h), row-count)
+
+pub slot-image : (link : ℕ) → isSlotLink link ≡ true → imageLength (rowOf link) ≤ longestImage
+slot-image link h = sizes (rowOf link) (good link (slot-offered link h)) .image

@@ -9,24 +9,25 @@ use Rattle.answers.specs.Numbers.{done}
 use Rattle.answers.specs.Outcome.{Wrote}
 use Rattle.blocks.specs.declared.Block.{Block}
 use Rattle.blocks.specs.Calls.{readBlock}
-use Rattle.words.specs.declared.Word.{Word}
 use Rattle.slots.specs.declared.Slot.{Slot}
+use Rattle.slots.specs.declared.head.Head.{Head}
 use Rattle.slots.specs.Burst.{headLength}
-use Rattle.slots.specs.Calls.{readHead, refused, both, readSlot}
+use Rattle.slots.specs.Head.{readHead}
+use Rattle.slots.specs.Calls.{refused, both, readSlot}
 use Rattle.slots.proofs.Calls.{head-short, read-refused, read-joined}
 
 -- a head that is read is all there
-pub head-long : (burst : List ℕ) {head : Word} → head ≡ readHead burst → head .status ≡ done → headLength ≤ length burst
+pub head-long : (burst : List ℕ) {head : Head} → head ≡ readHead burst → head .status ≡ done → headLength ≤ length burst
 head-long burst {head} e z =
-    let all : length burst < headLength → ⊥ = λ short. absurd (omega (arith, z, ap (λ (w : Word). w .status) (e ∙ head-short burst short))) in
+    let all : length burst < headLength → ⊥ = λ short. absurd (omega (arith, z, ap (λ (h : Head). h .status) (e ∙ head-short burst short))) in
     omega (arith, all)
 
-module _ (burst old : List ℕ) {head : Word} (e : head ≡ readHead burst) where
+module _ (burst old : List ℕ) {head : Head} (e : head ≡ readHead burst) where
   pub head-refused : (head .status ≡ done → ⊥) → readSlot burst (length old) ≡ refused (head .status)
   head-refused h = rw e (read-refused burst (length old) (rw e at h))
 
   pub joins : head .status ≡ done → (rest : List ℕ) → rest ≡ drop headLength burst → (new : List ℕ) {block : Block}
-      → Wrote (readBlock (head .number) rest (length old)) old new block → {answer : Slot} → answer ≡ both head block → Wrote (readSlot burst (length old)) old new answer
+      → Wrote (readBlock (head .link) rest (length old)) old new block → {answer : Slot} → answer ≡ both head block → Wrote (readSlot burst (length old)) old new answer
   joins z rest r new w a =
-      let whole = read-joined burst (length old) (sym (ap (λ (w : Word). w .status) e) ∙ z) in
+      let whole = read-joined burst (length old) (sym (ap (λ (h : Head). h .status) e) ∙ z) in
       rw (whole, a, ← e, ← r) (record { answers = ap (both head) (w .answers); leaves = w .leaves })

@@ -1,7 +1,7 @@
 -- The ways that reading a slot burst goes, line by line as document 01 numbers them: 2, 4, 5, 6, 1 of the head, 2, 3, 4, 7 of the
 -- rest, done.
 -- Assumes nothing.
-use mathlib.Core.Path.{_≡_, refl, sym, ap, _∙_}
+use mathlib.Core.Path.{_≡_, refl, sym, _∙_}
 use mathlib.Core.Bool.{Bool, true, false, true≢false}
 use mathlib.Core.List.{List, map}
 use Prim.Native.Nat.{ℕ, _<_, _≤_}
@@ -21,12 +21,14 @@ use Rattle.blocks.specs.Block.{imageOf, datagramOf}
 use Rattle.blocks.specs.Near.{Near as NearBlock}
 use Rattle.blocks.specs.Calls.{readBlock}
 use Rattle.blocks.proofs.WaysOfReading as b
+use Rattle.words.specs.declared.Word.{Word}
 use Rattle.words.specs.Near.{Near as NearWord}
 use Rattle.words.specs.Calls.{readWord, found, refused as refusedWord}
 use Rattle.words.proofs.Ways as w
 use Rattle.slots.specs.Burst.{training, trainingLength, headLength, headPart, trainingPart, wordPart, blockPart, isSlotLink}
 use Rattle.slots.specs.Near.{Near}
-use Rattle.slots.specs.Calls.{trainingWrong, slotWord, readHead, refused, reading, both, joined, readSlot}
+use Rattle.slots.specs.Head.{refusedHead, foundHead, trainingWrong, namedHead, readHead}
+use Rattle.slots.specs.Calls.{refused, reading, both, joined, readSlot}
 use Rattle.slots.proofs.Calls.{word-refused, word-no-slot, word-slot, head-short, head-no-bit, head-no-training, head-word, read-refused, read-joined}
 use Rattle.slots.proofs.Links.{slot-offered}
 use Rattle.slots.proofs.Parts.{part-back, rest-back, word-long, word-bits}
@@ -70,12 +72,12 @@ pub data Reading (burst : List ℕ) (room : ℕ) : Type 0 where
 
 module _ (burst : List ℕ) (room : ℕ) where
   -- a refusal of the head is the answer
-  head-refuses : (number : ℕ) → (number ≡ 0 → ⊥) → readHead burst ≡ refusedWord number → readSlot burst room ≡ refused number
+  head-refuses : (number : ℕ) → (number ≡ 0 → ⊥) → readHead burst ≡ refusedHead number → readSlot burst room ≡ refused number
   head-refuses number h e = rw (read-refused burst room (rw e h), e)
 
   -- what the rest is read as, joined with the head
-  module _ (link wrong : ℕ) (head : readHead burst ≡ found link wrong) (h : Headed burst link wrong) where
-    is-joined : {block : Outcome Block} → readBlock link (blockPart burst) room ≡ block → readSlot burst room ≡ joined (found link wrong) block
+  module _ (link wrong : ℕ) (head : readHead burst ≡ foundHead link wrong (trainingWrong burst)) (h : Headed burst link wrong) where
+    is-joined : {block : Outcome Block} → readBlock link (blockPart burst) room ≡ block → readSlot burst room ≡ joined (foundHead link wrong (trainingWrong burst)) block
     is-joined e = read-joined burst room (rw head) ∙ rw (head, e)
 
     rest-goes : b.Reading link (blockPart burst) room → Reading burst room
@@ -87,21 +89,6 @@ module _ (burst : List ℕ) (room : ℕ) where
     rest-goes (b.none-near o s r a f e) = none-near link wrong h (record { size = s; fits = r }) a f (is-joined e)
     rest-goes (b.reads o s r a u n e) = reads link wrong h (record { size = s; fits = r }) a u n (is-joined e)
 
-  -- what the word of a head with its training is read as
-  module _ (t : Trained burst) (tried : readHead burst ≡ slotWord (readWord (wordPart burst))) where
-    slot-goes : (link wrong : ℕ) → Named burst link wrong → (slot : Bool) → isSlotLink link ≡ slot → Reading burst room
-    slot-goes link wrong n true s =
-        let head = tried ∙ ap slotWord (n .read) ∙ word-slot (found link wrong) refl s in
-        rest-goes link wrong head (record { named = n; slot = s }) (b.reading-goes link (blockPart burst) room)
-    slot-goes link wrong n false s =
-        no-slot link wrong n s (head-refuses notOffered (λ z. omega (arith, z)) (tried ∙ ap slotWord (n .read) ∙ word-no-slot (found link wrong) refl s))
-
-    word-goes : w.Reading (wordPart burst) → Reading burst room
-    word-goes (w.no-length l e) = absurd (l (word-long burst (t .long)))
-    word-goes (w.no-bits l a e) = absurd (true≢false (sym (word-bits burst (t .bits)) ∙ a))
-    word-goes (w.none-near l a f e) = no-word t f (head-refuses noWord (λ z. omega (arith, z)) (tried ∙ ap slotWord e ∙ word-refused (refusedWord noWord) (λ z. omega (arith, z))))
-    word-goes (w.reads l a link wrong n e) = slot-goes link wrong (record { trained = t; near = n; read = e }) (isSlotLink link) refl
-
   same-training : trainingWrong burst ≡ 0 → map isOne (trainingPart burst) ≡ training
   unfolding trainingWrong
   same-training e = sym (differences-zero training (map isOne (trainingPart burst)) e)
@@ -109,6 +96,24 @@ module _ (burst : List ℕ) (room : ℕ) where
   training-wrong : map isOne (trainingPart burst) ≡ training → trainingWrong burst ≡ 0
   unfolding trainingWrong
   training-wrong e = rw e (differences-self training)
+
+  -- what the word of a head with its training is read as
+  module _ (t : Trained burst) where
+    as-read : {word : Word} → readWord (wordPart burst) ≡ word → readHead burst ≡ namedHead word (trainingWrong burst)
+    as-read e = head-word burst (t .long) (t .bits) e refl (training-wrong (t .same))
+
+    slot-goes : (link wrong : ℕ) → Named burst link wrong → (slot : Bool) → isSlotLink link ≡ slot → Reading burst room
+    slot-goes link wrong n true s =
+        let head = as-read (n .read) ∙ word-slot (found link wrong) _ refl s in
+        rest-goes link wrong head (record { named = n; slot = s }) (b.reading-goes link (blockPart burst) room)
+    slot-goes link wrong n false s =
+        no-slot link wrong n s (head-refuses notOffered (λ z. omega (arith, z)) (as-read (n .read) ∙ word-no-slot (found link wrong) _ refl s))
+
+    word-goes : w.Reading (wordPart burst) → Reading burst room
+    word-goes (w.no-length l e) = absurd (l (word-long burst (t .long)))
+    word-goes (w.no-bits l a e) = absurd (true≢false (sym (word-bits burst (t .bits)) ∙ a))
+    word-goes (w.none-near l a f e) = no-word t f (head-refuses noWord (λ z. omega (arith, z)) (as-read e ∙ word-refused (refusedWord noWord) _ (λ z. omega (arith, z))))
+    word-goes (w.reads l a link wrong n e) = slot-goes link wrong (record { trained = t; near = n; read = e }) (isSlotLink link) refl
 
   pub reading-goes : Reading burst room
   reading-goes = decided (ltb (length burst) headLength) (allBits (headPart burst)) (eqb (trainingWrong burst) 0) refl refl refl
@@ -126,8 +131,7 @@ module _ (burst : List ℕ) (room : ℕ) where
           no-training l a (λ e. other (training-wrong e)) (head-refuses noTraining (λ z. omega (arith, z)) (head-no-training burst l a other))
       decided false true true s a t =
           let l = ltb-false (length burst) headLength s in
-          let same = eqb-true (trainingWrong burst) 0 t in
-          word-goes (record { long = l; bits = a; same = same-training same }) (head-word burst l a same) (w.reading-goes (wordPart burst))
+          word-goes (record { long = l; bits = a; same = same-training (eqb-true (trainingWrong burst) 0 t) }) (w.reading-goes (wordPart burst))
 
 -- a burst that is read is near, as demand 3 says it
 pub near-burst : (came : List Bool) (link wrong : ℕ) → Headed (map byte came) link wrong → {room : ℕ} → Sized (map byte came) room link

@@ -2,7 +2,6 @@
 use crate::Slot;
 use crate::head;
 use blocks::Block;
-use words::Word;
 ghost use mathlib.Core.Path.{_≡_};
 ghost use lib.ListN.{length};
 ghost use Rattle.answers.specs.Outcome.{Wrote};
@@ -22,7 +21,7 @@ fn refuse(status: u32) -> Slot
 }
 
 // What was read of the rest, with what was read of the head.
-fn join(head: Word, block: Block) -> Slot
+fn join(head: head::Head, block: Block) -> Slot
     ensures { λ r. ⌜ r ≡ both head block ⌝ }
 {
     if block.status != 0 {
@@ -32,8 +31,8 @@ fn join(head: Word, block: Block) -> Slot
         status: 0,
         count: block.count,
         wrong: block.wrong,
-        link: head.number,
-        word_wrong: head.wrong,
+        link: head.link,
+        word_wrong: head.word_wrong,
     }
 }
 
@@ -45,6 +44,6 @@ pub fn read(burst: &[u8], out: &mut [u8]) -> Slot
     if head.status != 0 {
         return refuse(head.status);
     }
-    let block = block_reader::read(head.number, &burst[86..], out);
+    let block = block_reader::read(head.link, &burst[86..], out);
     join(head, block)
 }

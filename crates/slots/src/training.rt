@@ -25,12 +25,12 @@ pub fn lay(out: &mut [u8])
 }
 
 // In how many of its 54 bits the training that came differs.
-pub fn wrong(came: &[u8]) -> usize
+pub fn wrong(came: &[u8]) -> u32
     requires { ⌜ (length (now came) ≡ 54) × (allBits (now came) ≡ true) ⌝ }
     ensures { λ r. ⌜ r ≡ differences training (map isOne (now (came .entry))) ⌝ }
 {
     let symbols = SYMBOLS;
-    let mut count: usize = 0;
+    let mut count: u32 = 0;
     for i in 0..54 {
         if came[i] != symbols[i / 2] % 2 {
             count += 1;

@@ -11,11 +11,10 @@ use Rattle.lists.proofs.Tests.{holds, fails}
 use Rattle.links.specs.Rows.{rowOf}
 use Rattle.links.specs.Sizes.{bytesHeld, imageLength}
 use Rattle.links.proofs.Facts.{sizes}
-use Rattle.links.proofs.Good.{good}
-use Rattle.links.proofs.Search.{row-count, offered-place, found-row}
+use Rattle.links.proofs.Search.{found-row}
 use Rattle.links.proofs.FoundRow.{row-is, row-good}
 use Rattle.slots.specs.Burst.{isSlotLink, burstLength}
-use Rattle.slots.proofs.Links.{slot-offered, slot-has-word}
+use Rattle.slots.proofs.Links.{slot-has-word, slot-inside, slot-image}
 use Rattle.slots.proofs.Writing.{counted, written}
 use Rattle.slots.proofs.write.Statement.{statement}
 use Rattle.slots.proofs.write.Tie as tie
@@ -28,7 +27,7 @@ slot : (c : tie.Else1) → isSlotLink (start c .args .link) ≡ true
 slot c = holds (c .before .is-slot-link .ensures) (c .if1 .left)
 
 inside : (c : tie.After-place-of) → c .place-of .result < 22
-inside c = omega (arith, c .place-of .ensures, offered-place _ (slot-offered _ (slot (c .before))), row-count)
+inside c = slot-inside _ (slot (c .before)) (c .place-of .ensures)
 
 held : (c : tie.After-bytes-held) → c .bytes-held .result ≡ bytesHeld (rowOf (start (c .before .before .before) .args .link))
 held c = c .bytes-held .ensures ∙ ap bytesHeld (row-is _ (c .before .before .place-of .ensures) (inside (c .before .before)) (c .before .row-at .ensures))
@@ -72,9 +71,7 @@ image-length-at-requires : tie.Need-image-length-at-requires
 image-length-at-requires c κs = inside (c .before .before .before)
 
 add-if3 : tie.Need-add-if3
-add-if3 c =
-    let offers = slot-offered _ (slot (c .before .before .before .before .before)) in
-    record { fits = omega (arith, size c, sizes _ (good _ offers) .image) }
+add-if3 c = record { fits = omega (arith, size c, slot-image _ (slot (c .before .before .before .before .before))) }
 
 refuse-requires-3 : tie.Need-refuse-requires-3
 refuse-requires-3 c κs = search needs
@@ -104,7 +101,7 @@ add-done c =
     let passed = c .before .before .before .before .before .before .before .before .before in
     let is-slot = slot (passed .before .before .before .before .before .before) in
     let count = counted _ is-slot _ (fits (passed .before .before)) _ _ _ (room passed) (c .before .before .before .before .before .before .before .lay .ensures) (c .before .before .before .write .ensures) in
-    record { fits = omega (arith, count, sizes _ (good _ (slot-offered _ is-slot)) .image) }
+    record { fits = omega (arith, count, slot-image _ is-slot) }
 
 done-requires : tie.Need-done-requires
 done-requires c κs = search needs
