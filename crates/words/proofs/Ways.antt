@@ -2,7 +2,7 @@
 -- Assumes nothing.
 use mathlib.Core.Path.{_≡_, refl, sym, ap, _∙_}
 use mathlib.Core.Logic.{_⊎_, inl, inr, ⊎-elim, by-cases}
-use mathlib.Core.Bool.{Bool, true, false, true≢false}
+use mathlib.Core.Bool.{Bool, true, false}
 use mathlib.Core.List.{List, map}
 use Prim.Native.Nat.{ℕ, zero, suc, _<_, _≤_}
 use native.Mathlib.Decide.{decLe}
@@ -13,12 +13,11 @@ use lib.Dec.{eqb, ltb}
 use lib.ListN.{length, length-map}
 use borrow.Author.Count.{below-more}
 use borrow.Author.Tests.{eqb-true, eqb-false, ltb-true, ltb-false}
-use Rattle.answers.specs.Numbers.{done, notOffered, wrongLength, noRoom, noBit, noWord}
+use Rattle.answers.specs.Numbers.{notOffered, wrongLength, noRoom, noBit, noWord}
 use Rattle.answers.specs.Outcome.{refusal, writing}
 use Rattle.bits.specs.Bits.{isOne, byte, allBits}
 use Rattle.bits.specs.Row.{differences}
 use Rattle.bits.proofs.Bits.{bytes-bits}
-use Rattle.words.specs.declared.Word.{Word}
 use Rattle.words.specs.Word.{wordBits}
 use Rattle.words.specs.Near.{Near}
 use Rattle.words.specs.Calls.{writeWord, readWord, refused, found}
@@ -78,13 +77,3 @@ reading-goes row = decided (eqb (length row) 32) (allBits row) refl refl
     decided false all s a = no-length (eqb-false (length row) 32 s) (read-length row (eqb-false (length row) 32 s))
     decided true false s a = no-bits (eqb-true (length row) 32 s) a (read-no-bit row (eqb-true (length row) 32 s) a)
     decided true true s a = bits (eqb-true (length row) 32 s) a
-
--- 32 bits that are refused have no word near
-pub no-word : (row : List ℕ) → length row ≡ 32 → allBits row ≡ true → (readWord row .status ≡ done → ⊥) → readWord row ≡ refused noWord
-no-word row l a h = way (reading-goes row)
-  where
-    way : Reading row → readWord row ≡ refused noWord
-    way (no-length other e) = absurd (other l)
-    way (no-bits s none e) = absurd (true≢false (sym a ∙ none))
-    way (none-near s b far e) = e
-    way (reads s b n wrong near e) = absurd (h (ap (λ (w : Word). w .status) e))

@@ -16,7 +16,7 @@ pub struct Word {
 }
 
 // Reading refuses with a number.
-pub fn refuse(status: u32) -> Word
+fn refuse(status: u32) -> Word
     ensures { λ r. ⌜ r ≡ refused status ⌝ }
 {
     Word {
