@@ -1,15 +1,18 @@
 -- What is answered for a proposed block on either side of the limit, and its datagram as bytes are packed.
 -- Assumes nothing.
 use mathlib.Core.Path.{_≡_, ap, _∙_}
-use mathlib.Core.Bool.{Bool}
+use mathlib.Core.Bool.{Bool, true}
 use mathlib.Core.List.{List}
-use Prim.Native.Nat.{ℕ, _<_, _≤_}
+use Prim.Native.Nat.{ℕ, _*_, _<_, _≤_}
+use native.Mathlib.Nat.{zero-add}
+use lib.ListN.{length, take}
 use borrow.Author.Tests.{le-leb, lt-leb}
 use Rattle.lists.specs.Over.{over}
 use Rattle.lists.proofs.Over.{over-zero}
 use Rattle.answers.specs.Outcome.{laid}
-use Rattle.bits.specs.Datagram.{bytesOf}
+use Rattle.bits.specs.Datagram.{allBytes, bytesOf, packedOver}
 use Rattle.bits.specs.Row.{differences}
+use Rattle.bits.proofs.Packed.{packed-bytes}
 use Rattle.links.specs.declared.Row.{Row}
 use Rattle.links.specs.Sizes.{bytesHeld}
 use Rattle.blocks.specs.Block.{imageOf, datagramOf}
@@ -25,6 +28,8 @@ module _ (limit number : ℕ) (row : Row) (came u : List Bool) where
   unfolding within
   near-answered h = rw (le-leb (differences (imageOf row u) came) limit h)
 
-pub datagram-laid : (row : Row) (u : List Bool) (old new : List ℕ) {held : ℕ} → held ≡ bytesHeld row → new ≡ over 0 (bytesOf held u) old → new ≡ laid (datagramOf row u) old
+pub datagram-laid : (row : Row) (u : List Bool) (old new : List ℕ) {held : ℕ} → held ≡ bytesHeld row → allBytes old ≡ true → held * 8 ≤ length u → held ≤ length old
+    → new ≡ packedOver 0 (take (held * 8) u) old → new ≡ laid (datagramOf row u) old
 unfolding datagramOf
-datagram-laid row u old new e p = p ∙ ap (λ (m : ℕ). over 0 (bytesOf m u) old) e ∙ over-zero (bytesOf (bytesHeld row) u) old
+datagram-laid row u old new {held} e bytes long room p =
+    p ∙ packed-bytes 0 held u old bytes long (rw zero-add room) ∙ ap (λ (m : ℕ). over 0 (bytesOf m u) old) e ∙ over-zero (bytesOf (bytesHeld row) u) old

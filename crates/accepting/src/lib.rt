@@ -34,7 +34,7 @@ pub fn over_zero(row: Row, u: &[u8]) -> bool
     requires { ⌜ T (goodRow row) × (length (now u) ≡ row .k) ⌝ }
     ensures { λ r. ⌜ r ≡ allZero (bitsOver (codingOf row) (map isOne (now (u .entry)))) ⌝ }
 {
-    let end = (row.k - 32) as usize;
+    let end = links::open_bits(row);
     for i in links::bytes_held(row) * 8..end {
         if u[i] == 1 {
             return false;
@@ -72,6 +72,6 @@ pub fn accept(
         return blocks::refuse(number);
     }
     let held = links::bytes_held(row);
-    bits::pack(u, held, out);
+    bits::pack(u, held * 8, 0, out);
     answer(held as u32, wrong as u32)
 }

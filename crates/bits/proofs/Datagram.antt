@@ -2,24 +2,23 @@
 -- Assumes nothing.
 use mathlib.Core.Path.{_≡_, refl, sym, ap, ap₂, _∙_}
 use mathlib.Core.Bool.{Bool, true, false}
-use mathlib.Core.List.{List, [], _∷_, _++_, map, map-append, append-assoc}
-use Prim.Native.Nat.{ℕ, zero, suc, _+_, _-_, _*_, _/_, _%_, _^_, _≤_, _<_}
-use native.Mathlib.Nat.{zero-add, zero-div, mod-lt, pow-le-pow-right, zero-lt-suc}
+use mathlib.Core.List.{List, [], _∷_, _++_, map, append-assoc}
+use Prim.Native.Nat.{ℕ, zero, suc, _+_, _-_, _*_, _≤_, _<_}
+use native.Mathlib.Nat.{pow-le-pow-right, zero-lt-suc}
 use native.Mathlib.Omega.{arith}
-use borrow.Author.Tests.{ltb-true}
+use borrow.Author.Tests.{ltb-true, lt-ltb}
 use lib.Dec.{ltb}
-use lib.ListN.{length, getD, take, drop, replicate, take-append-drop, length-append, length-replicate, length-drop, length-take, List·getD-append, replicate-append-replicate}
-use lib.Seq.{take-at, drop-at, take-append-le, take-take, length-take-le, getD-append-add, getD-take, getD-drop, drop-drop, ext-getD}
+use lib.ListN.{length, take, drop, replicate, length-append, length-replicate, length-take, length-drop, take-append-drop, replicate-append-replicate}
+use lib.Seq.{take-at, drop-at, take-append-le, take-append-add, drop-append-add, take-take, take-nil, drop-nil, length-take-le, drop-drop}
 use Rattle.lists.specs.Every.{every}
 use Rattle.lists.proofs.Every.{every-append, every-replicate}
 use Rattle.lists.proofs.Parts.{drop-take, map-take, map-drop}
 use Rattle.lists.proofs.Tests.{both-true}
-use Rattle.bits.specs.Bits.{isOne, byte}
+use Rattle.bits.specs.Bits.{isOne}
 use Rattle.bits.specs.Row.{highFirst, number}
 use Rattle.bits.specs.Datagram.{allBytes, bitsOf, filled, bytesOf}
-use Rattle.bits.proofs.Bits.{byte-isOne}
-use Rattle.bits.proofs.Row.{length-highFirst, highFirst-at, number-highFirst, highFirst-number, number-lt}
-use Rattle.bits.proofs.Filled.{length-filled, filled-at, filled-fits, take-filled}
+use Rattle.bits.proofs.Row.{length-highFirst, number-highFirst, highFirst-number, number-lt}
+use Rattle.bits.proofs.Filled.{filled-fits, take-filled}
 
 -- ---- bytes to bits
 pub length-bitsOf : (datagram : List ℕ) → length (bitsOf datagram) ≡ length datagram * 8
@@ -27,48 +26,27 @@ unfolding bitsOf
 length-bitsOf [] = refl
 length-bitsOf (b ∷ datagram) = omega (arith, length-append (highFirst 8 b) (bitsOf datagram), length-highFirst 8 b, length-bitsOf datagram)
 
-bitsOf-append : (a b : List ℕ) → bitsOf (a ++ b) ≡ bitsOf a ++ bitsOf b
+pub bitsOf-append : (a b : List ℕ) → bitsOf (a ++ b) ≡ bitsOf a ++ bitsOf b
 unfolding bitsOf
 bitsOf-append [] b = refl
 bitsOf-append (x ∷ a) b = ap (λ (l : List Bool). highFirst 8 x ++ l) (bitsOf-append a b) ∙ sym (append-assoc (highFirst 8 x) (bitsOf a) (bitsOf b))
 
--- bit t of byte j
-bitsOf-at : (datagram : List ℕ) (j t : ℕ) → t < 8 → getD (bitsOf datagram) (j * 8 + t) false ≡ isOne (getD datagram j 0 / 2 ^ (7 - t) % 2)
+-- up to a byte, and from there on
+pub take-bitsOf : (j : ℕ) (datagram : List ℕ) → take (j * 8) (bitsOf datagram) ≡ bitsOf (take j datagram)
 unfolding bitsOf
-bitsOf-at [] j t h = rw zero-div
-bitsOf-at (b ∷ datagram) zero t h =
-    let place : 8 - suc t ≡ 7 - t = omega arith in
-    rw (zero-add, ← place) (List·getD-append (highFirst 8 b) (bitsOf datagram) false t (rw length-highFirst h) ∙ highFirst-at 8 b t h)
-bitsOf-at (b ∷ datagram) (suc j) t h =
-    let place : suc j * 8 + t ≡ length (highFirst 8 b) + (j * 8 + t) = omega (arith, length-highFirst 8 b) in
-    rw place (getD-append-add (highFirst 8 b) (bitsOf datagram) (j * 8 + t) false ∙ bitsOf-at datagram j t h)
+take-bitsOf zero datagram = refl
+take-bitsOf (suc j) [] = take-nil (suc j * 8)
+take-bitsOf (suc j) (b ∷ datagram) =
+    let place : suc j * 8 ≡ length (highFirst 8 b) + j * 8 = omega (arith, length-highFirst 8 b) in
+    rw place (take-append-add (highFirst 8 b) (bitsOf datagram) (j * 8) ∙ ap (λ (l : List Bool). highFirst 8 b ++ l) (take-bitsOf j datagram))
 
--- bit i as code picks it
-pub bit-picked : (datagram : List ℕ) (i : ℕ) → getD datagram (i / 8) 0 / 2 ^ (7 - i % 8) % 2 ≡ byte (getD (bitsOf datagram) i false)
-bit-picked datagram i =
-    let digit = getD datagram (i / 8) 0 / 2 ^ (7 - i % 8) in
-    let place : i / 8 * 8 + i % 8 ≡ i = omega arith in
-    sym (byte-isOne (digit % 2) (omega (arith, mod-lt digit {m = 2} (zero-lt-suc 1))))
-    ∙ ap byte (sym (bitsOf-at datagram (i / 8) (i % 8) (omega arith)) ∙ ap (λ (k : ℕ). getD (bitsOf datagram) k false) place)
-
--- byte by byte: what is left to lay at byte j begins with its eight bits
-pub filled-byte : (n j : ℕ) (datagram : List ℕ) → j * 8 + 8 ≤ n
-    → map byte (drop (j * 8) (filled n (bitsOf datagram))) ≡ map byte (highFirst 8 (getD datagram j 0)) ++ map byte (drop ((j + 1) * 8) (filled n (bitsOf datagram)))
-filled-byte n j datagram h =
-    let row = filled n (bitsOf datagram) in
-    let left = drop (j * 8) row in
-    let value = getD datagram j 0 in
-    let next : j * 8 + 8 ≡ (j + 1) * 8 = omega arith in
-    let eight = length-take-le 8 left (simp (length-drop, length-filled) (omega arith)) in
-    let at : (t : ℕ) → t < 8 → getD (take 8 left) t false ≡ getD (highFirst 8 value) t false =
-    λ t l. let place : 8 - suc t ≡ 7 - t = omega arith in
-    getD-take 8 left t false l
-    ∙ getD-drop (j * 8) row t false
-    ∙ filled-at n (bitsOf datagram) (j * 8 + t) (omega arith)
-    ∙ bitsOf-at datagram j t l
-    ∙ sym (rw place at (highFirst-at 8 value t l)) in
-    let first : take 8 left ≡ highFirst 8 value = ext-getD false _ _ (eight ∙ sym (length-highFirst 8 value)) (λ t l. at t (rw eight at l)) in
-    ap (map byte) (sym (take-append-drop 8 left) ∙ ap₂ _++_ first (drop-drop 8 (j * 8) row ∙ ap (λ (k : ℕ). drop k row) next)) ∙ map-append byte (highFirst 8 value) (drop ((j + 1) * 8) row)
+pub drop-bitsOf : (j : ℕ) (datagram : List ℕ) → drop (j * 8) (bitsOf datagram) ≡ bitsOf (drop j datagram)
+unfolding bitsOf
+drop-bitsOf zero datagram = refl
+drop-bitsOf (suc j) [] = drop-nil (suc j * 8)
+drop-bitsOf (suc j) (b ∷ datagram) =
+    let place : suc j * 8 ≡ length (highFirst 8 b) + j * 8 = omega (arith, length-highFirst 8 b) in
+    rw place (drop-append-add (highFirst 8 b) (bitsOf datagram) (j * 8) ∙ drop-bitsOf j datagram)
 
 zero-bytes : (n : ℕ) → bitsOf (replicate n 0) ≡ replicate (n * 8) false
 unfolding bitsOf highFirst
@@ -95,7 +73,7 @@ length-bytesOf zero row = refl
 length-bytesOf (suc m) row = ap suc (length-bytesOf m (drop 8 row))
 
 -- only the first m * 8 bits count
-bytesOf-take : (m : ℕ) (row : List Bool) → bytesOf m (take (m * 8) row) ≡ bytesOf m row
+pub bytesOf-take : (m : ℕ) (row : List Bool) → bytesOf m (take (m * 8) row) ≡ bytesOf m row
 unfolding bytesOf
 bytesOf-take zero row = refl
 bytesOf-take (suc m) row =
@@ -112,6 +90,11 @@ bytesOf-filled m n row h = sym (bytesOf-take m (filled n row)) ∙ ap (bytesOf m
 -- what they make are bytes
 pub byte-small : (row : List Bool) → number (take 8 row) < 256
 byte-small row = omega (arith, number-lt (take 8 row), pow-le-pow-right {n = 2} (zero-lt-suc 1) {i = length (take 8 row)} {j = 8} (simp length-take (omega arith)))
+
+pub bytesOf-small : (m : ℕ) (row : List Bool) → allBytes (bytesOf m row) ≡ true
+unfolding bytesOf every
+bytesOf-small zero row = refl
+bytesOf-small (suc m) row = rw (lt-ltb (number (take 8 row)) 256 (byte-small row)) (bytesOf-small m (drop 8 row))
 
 -- the bits behind byte j
 pub after-byte : (j : ℕ) (row : List ℕ) → map isOne (drop ((j + 1) * 8) row) ≡ drop 8 (map isOne (drop (j * 8) row))
@@ -132,7 +115,7 @@ pub part-bits : (at : ℕ) (row : List ℕ) → map isOne (take (at + 8 - at) (d
 part-bits at row = let eight : at + 8 - at ≡ 8 = omega arith in rw eight (map-take isOne 8 (drop at row))
 
 -- ---- there and back
-bytesOf-bitsOf : (datagram : List ℕ) → allBytes datagram ≡ true → bytesOf (length datagram) (bitsOf datagram) ≡ datagram
+pub bytesOf-bitsOf : (datagram : List ℕ) → allBytes datagram ≡ true → bytesOf (length datagram) (bitsOf datagram) ≡ datagram
 unfolding bitsOf bytesOf every
 bytesOf-bitsOf [] e = refl
 bytesOf-bitsOf (b ∷ datagram) e =
@@ -144,6 +127,14 @@ bytesOf-bitsOf (b ∷ datagram) e =
 -- eight bits are those of the byte that they make
 pub byte-bits : (row : List Bool) → 8 ≤ length row → highFirst 8 (number (take 8 row)) ≡ take 8 row
 byte-bits row h = rw (length-take-le 8 row h) at (highFirst-number (take 8 row))
+
+-- bits that are whole bytes are those of the bytes that they make
+pub bitsOf-bytesOf : (m : ℕ) (row : List Bool) → length row ≡ m * 8 → bitsOf (bytesOf m row) ≡ row
+unfolding bitsOf bytesOf
+bitsOf-bytesOf zero [] e = refl
+bitsOf-bytesOf zero (b ∷ row) e = absurd (omega arith)
+bitsOf-bytesOf (suc m) row e =
+    ap₂ _++_ (byte-bits row (omega arith)) (bitsOf-bytesOf m (drop 8 row) (simp length-drop (omega arith))) ∙ take-append-drop 8 row
 
 -- m bytes of the bits of a datagram, of which n were kept, are the datagram filled with zero bytes
 pub datagram-back : (m n : ℕ) (datagram : List ℕ) → allBytes datagram ≡ true → length datagram ≤ m → m * 8 ≤ n

@@ -2,15 +2,15 @@
 -- Assumes nothing.
 use mathlib.Core.Path.{_≡_, refl, sym, ap, ap₂, _∙_}
 use mathlib.Core.Bool.{Bool, false}
-use mathlib.Core.List.{List, [], _∷_, map}
+use mathlib.Core.List.{List, [], _∷_, _++_, map}
 use Prim.Native.Nat.{ℕ, zero, suc, _+_, _-_, _*_, _/_, _%_, _^_, _<_, _≤_}
 use native.Mathlib.Nat.{pow-suc, pow-succ', one-le-pow, add-mul, mul-assoc, pow-le-pow-right, zero-lt-suc, mod-lt, mod-eq-of-lt, add-zero, zero-add, add-suc, suc-add, sub-zero, suc-sub-suc}
 use native.Mathlib.Numerals.{add-one}
 use native.Mathlib.Omega.{arith}
-use lib.Arith.{digits-lt, digits-div, mod-mul}
+use lib.Arith.{digits-lt, digits-div, digits-mod, mod-mul}
 use lib.ListN.{length, getD, take, drop, drop-of-length-le}
 use lib.Pow.{shr-shr}
-use lib.Seq.{drop-cons}
+use lib.Seq.{drop-cons, take-at, drop-at}
 use Rattle.bits.specs.Bits.{isOne, byte}
 use Rattle.bits.specs.Row.{highFirst, numberOn, number}
 use Rattle.bits.proofs.Bits.{byte-lt, byte-isOne, isOne-byte}
@@ -26,13 +26,19 @@ highFirst-at zero w i h = absurd (omega arith)
 highFirst-at (suc n) w zero h = rw (suc-sub-suc, sub-zero)
 highFirst-at (suc n) w (suc i) h = rw suc-sub-suc (highFirst-at n w i (omega arith))
 
--- the lowest digit left out
-pub take-highFirst : (n w : ℕ) → take n (highFirst (suc n) w) ≡ highFirst n (w / 2)
+-- ---- the digits of a number in two pieces
+pub highFirst-append : (m n w : ℕ) → highFirst (m + n) w ≡ highFirst m (w / 2 ^ n) ++ highFirst n w
 unfolding highFirst
-take-highFirst zero w = refl
-take-highFirst (suc n) w =
-    let half : w / 2 ^ suc n ≡ w / 2 / 2 ^ n = ap (λ (m : ℕ). w / 2 ^ m) (omega arith) ∙ sym (shr-shr w 1 n) in
-    ap₂ _∷_ (ap (λ (x : ℕ). isOne (x % 2)) half) (take-highFirst n w)
+highFirst-append zero n w = rw zero-add
+highFirst-append (suc m) n w =
+    let digit : w / 2 ^ (m + n) ≡ w / 2 ^ n / 2 ^ m = ap (λ (k : ℕ). w / 2 ^ k) (omega arith) ∙ sym (shr-shr w n m) in
+    rw suc-add (ap₂ _∷_ (ap (λ (x : ℕ). isOne (x % 2)) digit) (highFirst-append m n w))
+
+pub take-highFirst : (m n w : ℕ) → take m (highFirst (m + n) w) ≡ highFirst m (w / 2 ^ n)
+take-highFirst m n w = rw (highFirst-append m n w) (take-at (highFirst m (w / 2 ^ n)) (highFirst n w) m (length-highFirst m (w / 2 ^ n)))
+
+pub drop-highFirst : (m n w : ℕ) → drop m (highFirst (m + n) w) ≡ highFirst n w
+drop-highFirst m n w = rw (highFirst-append m n w) (drop-at (highFirst m (w / 2 ^ n)) (highFirst n w) m (length-highFirst m (w / 2 ^ n)))
 
 -- ---- the number of a row of bytes, byte by byte
 pub number-more : (row : List ℕ) (w i : ℕ) → i < length row
@@ -111,3 +117,16 @@ on-bits w (b ∷ row) =
 
 pub highFirst-number : (row : List Bool) → highFirst (length row) (number row) ≡ row
 highFirst-number row = on-bits 0 row
+
+-- ---- the digits of two numbers, one behind the other
+-- digits above those that are taken do not count
+pub highFirst-low : (n w : ℕ) → highFirst n (w % 2 ^ n) ≡ highFirst n w
+highFirst-low n w =
+    let digits : number (highFirst n w) ≡ w % 2 ^ n = omega (arith, back n 0 w) in
+    ap (highFirst n) (sym digits) ∙ rw (length-highFirst n w) at (highFirst-number (highFirst n w))
+
+pub highFirst-two : (m n a b : ℕ) → b < 2 ^ n → highFirst (m + n) (a * 2 ^ n + b) ≡ highFirst m a ++ highFirst n b
+highFirst-two m n a b h =
+    let w = a * 2 ^ n + b in
+    highFirst-append m n w
+    ∙ ap₂ _++_ (ap (highFirst m) (digits-div a h)) (sym (highFirst-low n w) ∙ ap (highFirst n) (digits-mod a h))

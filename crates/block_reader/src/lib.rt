@@ -24,7 +24,7 @@ fn mend(u: &mut [u8]) -> bool
     requires { ⌜ allBits (now u) ≡ true ⌝ }
     ensures { λ r. ⌜ Mends (map isOne (now (u .entry))) (now (u .exit)) r ⌝ }
 {
-    let register = check32::register(u);
+    let register = check32::register(check32::load(), u);
     if register == 0 {
         return true;
     }
@@ -70,7 +70,7 @@ pub fn read(link: u32, bits: &[u8], out: &mut [u8]) -> Block
     ensures { λ r. ⌜ Wrote (readBlock link (now (bits .entry)) (length (now (out .entry)))) (now (out .entry)) (now (out .exit)) r ⌝ }
 {
     let place = links::place_of(link);
-    if place >= 22 {
+    if !links::has_row(place) {
         return refuse(1);
     }
     let row = links::row_at(place);

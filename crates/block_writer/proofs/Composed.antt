@@ -12,7 +12,7 @@ use Rattle.lists.specs.Over.{over}
 use Rattle.lists.proofs.Over.{over-zero, over-over, over-all}
 use Rattle.bits.specs.Bits.{isOne, byte}
 use Rattle.bits.specs.Row.{highFirst}
-use Rattle.bits.specs.Datagram.{bitsOf}
+use Rattle.bits.specs.Datagram.{bitsOf, filled}
 use Rattle.bits.proofs.Bits.{bits-bytes}
 use Rattle.bits.proofs.Filled.{length-filled}
 use Rattle.check32.specs.Check.{register, checkBits}
@@ -27,16 +27,16 @@ module _ (row : Row) (good : T (goodRow row)) (datagram old : List ℕ) (size : 
   abbrev laid : List ℕ
   laid = over 0 (map byte (opening row datagram)) old
 
-  length-opening-bytes : length (map byte (opening row datagram)) ≡ row .k - 32
+  length-opening-bytes : length (map byte (opening row datagram)) ≡ openBits row
   length-opening-bytes = length-map (opening row datagram) byte ∙ length-filled (openBits row) (bitsOf datagram)
 
-  front-is : map isOne (take (row .k - 32) laid) ≡ opening row datagram
+  front-is : map isOne (take (openBits row) laid) ≡ opening row datagram
   front-is =
-      ap (λ (l : List ℕ). map isOne (take (row .k - 32) l)) (over-zero (map byte (opening row datagram)) old)
-      ∙ ap (map isOne) (take-at (map byte (opening row datagram)) _ (row .k - 32) length-opening-bytes)
+      ap (λ (l : List ℕ). map isOne (take (openBits row) l)) (over-zero (map byte (opening row datagram)) old)
+      ∙ ap (map isOne) (take-at (map byte (opening row datagram)) _ (openBits row) length-opening-bytes)
       ∙ bits-bytes (opening row datagram)
 
-  block-laid : over (row .k - 32) (map byte (checkBits (opening row datagram))) laid ≡ map byte (blockOf row datagram)
+  block-laid : over (openBits row) (map byte (checkBits (opening row datagram))) laid ≡ map byte (blockOf row datagram)
   unfolding blockOf
   block-laid =
       let p = map byte (opening row datagram) in
@@ -49,11 +49,15 @@ module _ (row : Row) (good : T (goodRow row)) (datagram old : List ℕ) (size : 
       ∙ sym both
 
   -- what the three calls leave: the bits, the register over them, and the register's bits behind them
-  pub block-composed : (opened closed : List ℕ) (check : ℕ) → opened ≡ laid → check ≡ register (map isOne (take (row .k - 32) opened))
-      → closed ≡ over (row .k - 32) (map byte (highFirst 32 check)) opened → closed ≡ map byte (blockOf row datagram)
-  block-composed opened closed check o r e =
-      let told : check ≡ register (opening row datagram) = r ∙ ap (λ (l : List ℕ). register (map isOne (take (row .k - 32) l))) o ∙ ap register front-is in
+  composed : (opened closed : List ℕ) (check : ℕ) → opened ≡ laid → check ≡ register (map isOne (take (openBits row) opened))
+      → closed ≡ over (openBits row) (map byte (highFirst 32 check)) opened → closed ≡ map byte (blockOf row datagram)
+  composed opened closed check o r e =
+      let told : check ≡ register (opening row datagram) = r ∙ ap (λ (l : List ℕ). register (map isOne (take (openBits row) l))) o ∙ ap register front-is in
       e
-      ∙ ap (λ (w : ℕ). over (row .k - 32) (map byte (highFirst 32 w)) opened) told
-      ∙ ap (over (row .k - 32) (map byte (checkBits (opening row datagram)))) o
+      ∙ ap (λ (w : ℕ). over (openBits row) (map byte (highFirst 32 w)) opened) told
+      ∙ ap (over (openBits row) (map byte (checkBits (opening row datagram)))) o
       ∙ block-laid
+
+  pub block-composed : {n : ℕ} → n ≡ openBits row → (opened closed : List ℕ) (check : ℕ) → opened ≡ over 0 (map byte (filled n (bitsOf datagram))) old
+      → check ≡ register (map isOne (take n opened)) → closed ≡ over n (map byte (highFirst 32 check)) opened → closed ≡ map byte (blockOf row datagram)
+  block-composed e opened closed check o r w = composed opened closed check (rw e at o) (rw e at r) (rw e at w)

@@ -19,9 +19,9 @@ fn block_bits(row: Row, datagram: &[u8], u: &mut [u8])
     requires { ⌜ T (goodRow row) × (length (now u) ≡ row .k) × (length (now datagram) ≤ bytesHeld row) ⌝ }
     ensures { λ _. ⌜ now (u .exit) ≡ map byte (blockOf row (now (datagram .entry))) ⌝ }
 {
-    let open = (row.k - 32) as usize;
-    bits::unpack(datagram, open, u);
-    let check = check32::register(&u[..open]);
+    let open = links::open_bits(row);
+    bits::unpack(datagram, 0, open, u);
+    let check = check32::register(check32::load(), &u[..open]);
     bits::lay_row(check, u, open);
 }
 
@@ -50,7 +50,7 @@ pub fn write(link: u32, datagram: &[u8], out: &mut [u8]) -> Written
     ensures { λ r. ⌜ Wrote (writeBlock link (now (datagram .entry)) (length (now (out .entry)))) (now (out .entry)) (now (out .exit)) r ⌝ }
 {
     let place = links::place_of(link);
-    if place >= 22 {
+    if !links::has_row(place) {
         return answers::refuse(1);
     }
     let row = links::row_at(place);

@@ -32,7 +32,7 @@ unfolding datagramOf
 length-datagram row u = length-bytesOf (bytesHeld row) u
 
 module _ (row : Row) (good : T (goodRow row)) (datagram : List ℕ) where
-  length-opening : length (opening row datagram) ≡ row .k - 32
+  length-opening : length (opening row datagram) ≡ openBits row
   length-opening = length-filled (openBits row) (bitsOf datagram)
 
   pub length-block : length (blockOf row datagram) ≡ row .k
@@ -55,7 +55,7 @@ module _ (row : Row) (good : T (goodRow row)) (datagram : List ℕ) where
     unfolding codingOf blockOf allZero
     over-zero =
         rw (
-          take-at (opening row datagram) (checkBits (opening row datagram)) (row .k - 32) length-opening,
+          take-at (opening row datagram) (checkBits (opening row datagram)) (openBits row) length-opening,
           drop-filled (bytesHeld row * 8) (openBits row) (bitsOf datagram) (omega (arith, length-bitsOf datagram)),
         )
         (every-replicate not (openBits row - bytesHeld row * 8) false refl)

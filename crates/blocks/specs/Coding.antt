@@ -3,13 +3,14 @@
 use Prim.Native.Nat.{_*_}
 use Rattle.distance.specs.Coding.{Coding}
 use Rattle.links.specs.declared.Row.{Row}
-use Rattle.links.specs.Sizes.{bytesHeld, imageLength}
+use Rattle.links.specs.Sizes.{openBits, bytesHeld, imageLength}
 use Rattle.turbo.specs.Parity.{parityOf, countsOf, tailBitsOf}
 use Rattle.scrambler.specs.Scrambler.{loaded, sequence}
 
 unfoldable pub codingOf : Row → Coding
 codingOf row = record {
   k = row .k;
+  before = openBits row;
   held = bytesHeld row * 8;
   size = imageLength row;
   counts = countsOf row;

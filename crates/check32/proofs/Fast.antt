@@ -10,7 +10,7 @@ use lib.Bits.{bitXor, bitAnd, xor-zero-r, xor-add-and, and-block, and-mask}
 use lib.Dec.{lit<}
 use lib.Pow.{pow-pos, pow-mono, split, mod-mod-pow, ones-lt}
 use Rattle.bits.specs.Bits.{byte}
-use Rattle.check32.specs.Check.{x32, step, registerFrom, register}
+use Rattle.check32.specs.Check.{x32, step, registerFrom, loaded, register}
 use Rattle.check32.proofs.Word.{step-word, step-lt}
 
 -- ---- the digits that a number shares with the generator below x^32: 2 1 0, 5 4, 8 7, 12 11 10, 16, 23 22, 26
@@ -84,7 +84,7 @@ fastFrom-is r (b ∷ row) h = ap (λ (x : ℕ). fastFrom x row) (fastStep-is r b
 
 -- the register of a row, computed fast
 abbrev pub fastRegister : List Bool → ℕ
-fastRegister row = fastFrom 0xFFFFFFFF row
+fastRegister row = fastFrom loaded row
 
 pub fastRegister-is : (row : List Bool) → fastRegister row ≡ register row
-fastRegister-is row = fastFrom-is 0xFFFFFFFF row (lit< tt)
+fastRegister-is row = fastFrom-is loaded row (lit< tt)

@@ -15,7 +15,7 @@ use Rattle.bits.specs.Bits.{isOne, byte}
 use Rattle.bits.specs.Xor.{_⊕_}
 use Rattle.bits.proofs.Bits.{byte-lt}
 use Rattle.bits.proofs.Xor.{⊕-is, ⊕-comm, ⊕-left-comm, ⊕-lt, ⊕-times}
-use Rattle.check32.specs.Check.{generator, x32, timesX, step, registerFrom, register}
+use Rattle.check32.specs.Check.{generator, x32, timesX, step, registerFrom, loaded, register}
 
 -- equal digits from 2^32 on fall away
 above : (t a b : ℕ) → a < 2 ^ 32 → b < 2 ^ 32 → (t * 2 ^ 32 + a) ⊕ (t * 2 ^ 32 + b) ≡ a ⊕ b
@@ -80,7 +80,7 @@ registerFrom-lt r [] h = h
 registerFrom-lt r (b ∷ row) h = registerFrom-lt (step r b) row (step-lt r h b)
 
 pub register-lt : (row : List Bool) → register row < 2 ^ 32
-register-lt row = registerFrom-lt 0xFFFFFFFF row (lit< tt)
+register-lt row = registerFrom-lt loaded row (lit< tt)
 
 -- ---- over a row of bytes, byte by byte
 pub register-more : (row : List ℕ) (r i : ℕ) → i < length row

@@ -30,8 +30,11 @@ registerFrom r [] = r
 registerFrom r (b ∷ row) = registerFrom (step r b) row
 
 -- the register is loaded with all ones
+abbrev pub loaded : ℕ
+loaded = 0xFFFFFFFF
+
 abbrev pub register : List Bool → ℕ
-register row = registerFrom 0xFFFFFFFF row
+register row = registerFrom loaded row
 
 -- the check bits of a row: what the register then holds, the highest bit first, with no complement
 abbrev pub checkBits : List Bool → List Bool

@@ -1,4 +1,4 @@
-// The 32-bit check (M.2092-1, Annex 2, 1.2.5): the register over a row of bits, and the bit that it tells of.
+// The 32-bit check (M.2092-1, Annex 2, 1.2.5): the register over rows of bits, and the bit that it tells of.
 mod bytes;
 
 ghost use mathlib.Core.Path.{_≡_};
@@ -6,7 +6,7 @@ ghost use mathlib.Core.List.{map};
 ghost use Rattle.bits.specs.Bits.{isOne};
 ghost use Rattle.bits.specs.Row.{highFirst};
 ghost use Rattle.check32.specs.Bytes.{byteResidues};
-ghost use Rattle.check32.specs.Check.{step, registerFrom, register};
+ghost use Rattle.check32.specs.Check.{step, registerFrom, loaded};
 ghost use Rattle.check32.specs.Residue.{bitsAfter};
 
 // One bit goes into the register at its high end, and the register moves up a place; the generator is added where a one falls out.
@@ -29,12 +29,19 @@ fn step_byte(r: u32, byte: u8, residues: &[u32; 32]) -> u32
     (r << 8) ^ (high ^ low)
 }
 
-// The register after a row of bits, one to a byte: 0 where the row closes.
-pub fn register(bits: &[u8]) -> u32
-    ensures { λ r. ⌜ r ≡ register (map isOne (now (bits .entry))) ⌝ }
+// What the register is loaded with: all ones.
+pub fn load() -> u32
+    ensures { λ r. ⌜ r ≡ loaded ⌝ }
+{
+    0xFFFFFFFF
+}
+
+// The register run on over a row of bits, one to a byte. Loaded first, it ends at 0 where the row closes.
+pub fn register(from: u32, bits: &[u8]) -> u32
+    ensures { λ r. ⌜ r ≡ registerFrom from (map isOne (now (bits .entry))) ⌝ }
 {
     let residues = bytes::residues();
-    let mut r: u32 = 0xFFFFFFFF;
+    let mut r = from;
     for j in 0..bits.len() / 8 {
         r = step_byte(r, bits::byte_at(bits, j), &residues);
     }

@@ -12,7 +12,7 @@ use Rattle.bits.specs.Xor.{_⊕_}
 use Rattle.bits.proofs.Differences.{differences-zero}
 use Rattle.bits.proofs.Flip.{length-flip, flip-flip, nearer, OneOff, same, flipped, one-off}
 use Rattle.bits.proofs.Xor.{⊕-self, ⊕-equal}
-use Rattle.check32.specs.Check.{register, Closes}
+use Rattle.check32.specs.Check.{loaded, register, Closes}
 use Rattle.check32.specs.Residue.{residue}
 use Rattle.check32.proofs.Linear.{registerFrom-flip}
 use Rattle.check32.proofs.Residue.{residue-not-zero, bitsAfter-found, bitsAfter-first}
@@ -23,8 +23,8 @@ use Rattle.distance.proofs.Residues.{residues-differ}
 -- a flip closes where the residue of its place is the register
 flip-closes : (row : List Bool) (i : ℕ) → i < length row → Closes (flip i row) ↔ (residue (length row - suc i) ≡ register row)
 flip-closes row i h = (
-  λ c. sym (⊕-equal (register row) (residue (length row - suc i)) (sym (registerFrom-flip 0xFFFFFFFF i row h) ∙ c)),
-  λ e. registerFrom-flip 0xFFFFFFFF i row h ∙ ap (λ (r : ℕ). register row ⊕ r) e ∙ ⊕-self (register row),
+  λ c. sym (⊕-equal (register row) (residue (length row - suc i)) (sym (registerFrom-flip loaded i row h) ∙ c)),
+  λ e. registerFrom-flip loaded i row h ∙ ap (λ (r : ℕ). register row ⊕ r) e ∙ ⊕-self (register row),
 )
 
 -- no flip of a row that closes does

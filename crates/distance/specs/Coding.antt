@@ -16,7 +16,9 @@ longest = 117216
 pub record Coding : Type 0 where
   -- the bits of a block
   pub k : ℕ
-  -- how many of them hold the datagram; those from there to the check are over
+  -- how many of them stand before the check
+  pub before : ℕ
+  -- how many of these hold the datagram; those from there to the check are over
   pub held : ℕ
   -- N, the bits of an image
   pub size : ℕ

@@ -2,7 +2,7 @@
 use mathlib.Core.Path.{_≡_}
 use mathlib.Core.Bool.{Bool, true, not, _&&_}
 use mathlib.Core.List.{List}
-use Prim.Native.Nat.{_-_, _≤_}
+use Prim.Native.Nat.{_≤_}
 use lib.Dec.{eqb}
 use lib.ListN.{length, take, drop}
 use Rattle.lists.specs.Every.{every}
@@ -15,7 +15,7 @@ allZero row = every not row
 
 -- the bits over, which stand before the check: four on link 12
 abbrev pub bitsOver : Coding → List Bool → List Bool
-bitsOver c a = drop (c .held) (take (c .k - 32) a)
+bitsOver c a = drop (c .held) (take (c .before) a)
 
 -- k bits whose check is right and whose bits over are zero
 unfoldable pub valid : Coding → List Bool → Bool

@@ -1,15 +1,18 @@
 // Scratch for the longest block and the longest image, cleared. There is no heap.
+use links::LONGEST_BLOCK;
+use links::LONGEST_IMAGE;
 ghost use mathlib.Core.Path.{_≡_};
+ghost use Rattle.links.specs.Good.{longestBlock, longestImage};
 ghost use Rattle.images.specs.Cleared.{cleared};
 
-pub fn block() -> [u8; 5616]
-    ensures { λ r. ⌜ r ≡ cleared 5616 ⌝ }
+pub fn block() -> [u8; LONGEST_BLOCK]
+    ensures { λ r. ⌜ r ≡ cleared longestBlock ⌝ }
 {
-    [0; 5616]
+    [0; LONGEST_BLOCK]
 }
 
-pub fn image() -> [u8; 12855]
-    ensures { λ r. ⌜ r ≡ cleared 12855 ⌝ }
+pub fn image() -> [u8; LONGEST_IMAGE]
+    ensures { λ r. ⌜ r ≡ cleared longestImage ⌝ }
 {
-    [0; 12855]
+    [0; LONGEST_IMAGE]
 }

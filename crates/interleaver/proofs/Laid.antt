@@ -14,7 +14,7 @@ use Rattle.lists.proofs.Over.{start, fits-piece, more-piece, more}
 use Rattle.bits.specs.Bits.{isOne, byte, allBits}
 use Rattle.bits.proofs.Bits.{byte-at}
 use Rattle.links.specs.declared.Row.{Row}
-use Rattle.links.specs.Good.{goodRow}
+use Rattle.links.specs.Good.{goodRow, longestBlock}
 use Rattle.links.proofs.Facts.{sizes, block-is}
 use Rattle.turbo.specs.Interleaver.{position, interleavedFrom, interleaved}
 use Rattle.turbo.proofs.Interleaved.{length-from}
@@ -26,11 +26,11 @@ pub place-code : (row : Row) (m i j : ℕ)
 place-code row m i j = let q : tFrom row i % 8 + 1 - 1 ≡ tFrom row i % 8 = omega arith in rw q
 
 -- the pairs of a good row are few
-pub pair-small : (row : Row) → T (goodRow row) → (i j : ℕ) → i < row .k1 / 2 → j < row .k2 → i * row .k2 + j < 2808
+pub pair-small : (row : Row) → T (goodRow row) → (i j : ℕ) → i < row .k1 / 2 → j < row .k2 → i * row .k2 + j < longestBlock
 pair-small row good i j hi hj =
     omega (arith, block-is row good, sizes row good .block, digits-lt {q = i} {m = row .k1 / 2} {r = j} {c = row .k2} hi hj)
 
-pub row-small : (row : Row) → T (goodRow row) → (i : ℕ) → i < row .k1 / 2 → i < 2808
+pub row-small : (row : Row) → T (goodRow row) → (i : ℕ) → i < row .k1 / 2 → i < longestBlock
 row-small row good i hi =
     omega (arith, hi, block-is row good, sizes row good .block, mul-comm (row .k1 / 2) (row .k2), digits-lt {q = 0} {m = row .k2} {r = i} {c = row .k1 / 2} (sizes row good .width) hi)
 

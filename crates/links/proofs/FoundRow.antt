@@ -1,18 +1,19 @@
 -- The row at the place that was found is the link's, and good.
 -- Assumes nothing.
 use mathlib.Core.Path.{_≡_, _∙_}
-use Prim.Native.Nat.{ℕ, _<_}
+use mathlib.Core.Bool.{true}
+use Prim.Native.Nat.{ℕ}
 use lib.Dec.{T}
 use lib.ListN.{getD}
 use Rattle.links.specs.declared.Row.{Row}
-use Rattle.links.specs.Rows.{rows, noRow, place, rowOf}
+use Rattle.links.specs.Rows.{rows, noRow, place, offered, rowOf}
 use Rattle.links.specs.Good.{goodRow}
 use Rattle.links.proofs.Good.{good}
-use Rattle.links.proofs.Search.{found-offered, found-row}
+use Rattle.links.proofs.Search.{found-row}
 
-module _ (link : ℕ) {at : ℕ} (found : at ≡ place link) (inside : at < 22) {row : Row} (r : row ≡ getD rows at noRow) where
+module _ (link : ℕ) {at : ℕ} (found : at ≡ place link) {row : Row} (r : row ≡ getD rows at noRow) where
   pub row-is : row ≡ rowOf link
   row-is = r ∙ found-row link found
 
-  pub row-good : T (goodRow row)
-  row-good = rw row-is (good link (found-offered link found inside))
+  pub row-good : offered link ≡ true → T (goodRow row)
+  row-good e = rw row-is (good link e)

@@ -8,7 +8,6 @@ use lib.ListN.{length, getD}
 use Rattle.links.specs.declared.Row.{Row}
 use Rattle.links.specs.Rows.{row, rows, noRow}
 use Rattle.links.specs.Sizes.{imageLength}
-use Rattle.links.proofs.Search.{row-count}
 
 -- ---- the two tables of the code
 abbrev pub numbers : Row → List ℕ
@@ -26,12 +25,12 @@ entry f none [] i h = absurd (omega arith)
 entry f none (r ∷ rs) zero h = refl
 entry f none (r ∷ rs) (suc i) h = entry f none rs i (omega arith)
 
-pub row-is : (i : ℕ) → i < 22 → joined (getD (map numbers rows) i []) (getD (map primes rows) i []) ≡ getD rows i noRow
-row-is i h = ap₂ joined (entry numbers [] rows i (omega (arith, row-count))) (entry primes [] rows i (omega (arith, row-count)))
+pub row-is : (i : ℕ) → i < length rows → joined (getD (map numbers rows) i []) (getD (map primes rows) i []) ≡ getD rows i noRow
+row-is i h = ap₂ joined (entry numbers [] rows i h) (entry primes [] rows i h)
 
-pub link-is : (i : ℕ) → i < 22 → getD (getD (map numbers rows) i []) 0 0 ≡ getD rows i noRow .link
-link-is i h = ap (λ (ns : List ℕ). getD ns 0 0) (entry numbers [] rows i (omega (arith, row-count)))
+pub link-is : (i : ℕ) → i < length rows → getD (getD (map numbers rows) i []) 0 0 ≡ getD rows i noRow .link
+link-is i h = ap (λ (ns : List ℕ). getD ns 0 0) (entry numbers [] rows i h)
 
 -- ---- and the list of N
-pub image-length-is : (i : ℕ) → i < 22 → getD (map imageLength rows) i 0 ≡ imageLength (getD rows i noRow)
-image-length-is i h = entry imageLength 0 rows i (omega (arith, row-count))
+pub image-length-is : (i : ℕ) → i < length rows → getD (map imageLength rows) i 0 ≡ imageLength (getD rows i noRow)
+image-length-is i h = entry imageLength 0 rows i h

@@ -1,15 +1,15 @@
 -- A link's row is searched for in the table row by row.
 -- Assumes nothing.
-use mathlib.Core.Path.{_≡_, refl, ap, _∙_}
-use mathlib.Core.Bool.{true, false, cond}
+use mathlib.Core.Path.{_≡_, refl, sym, ap, _∙_}
+use mathlib.Core.Bool.{Bool, true, cond}
 use mathlib.Core.List.{List}
 use Prim.Native.Nat.{ℕ, suc, _+_, _≤_, _<_}
 use native.Mathlib.Numerals.{add-one}
 use native.Mathlib.Omega.{arith}
-use lib.Dec.{eqb}
+use lib.Dec.{eqb, ltb}
 use lib.ListN.{length, getD, drop, drop-of-length-le}
 use lib.Seq.{drop-cons}
-use borrow.Author.Tests.{ltb-true, lt-ltb, le-ltb, eq-eqb, ne-eqb}
+use borrow.Author.Tests.{ltb-true, eq-eqb, ne-eqb}
 use Rattle.links.specs.declared.Row.{Row}
 use Rattle.links.specs.Rows.{rows, noRow, placeIn, place, offered, rowOf}
 
@@ -39,13 +39,10 @@ offered-place link e = ltb-true (place link) (length rows) e
 
 -- ---- what a caller learns from the place that was found
 module _ (link : ℕ) {at : ℕ} (found : at ≡ place link) where
-  pub found-offered : at < 22 → offered link ≡ true
+  -- by the test whether a row stands there
+  pub found-offered : {inside : Bool} → ltb at (length rows) ≡ inside → offered link ≡ inside
   unfolding offered
-  found-offered h = lt-ltb (place link) (length rows) (omega (arith, found, row-count))
-
-  pub found-none : 22 ≤ at → offered link ≡ false
-  unfolding offered
-  found-none h = le-ltb (place link) (length rows) (omega (arith, found, row-count))
+  found-offered e = ap (λ (i : ℕ). ltb i (length rows)) (sym found) ∙ e
 
   pub found-row : getD rows at noRow ≡ rowOf link
   unfolding rowOf

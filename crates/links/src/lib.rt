@@ -6,9 +6,10 @@ pub use flags::pattern;
 pub use flags::tail;
 ghost use mathlib.Core.Path.{_≡_};
 ghost use Prim.Native.Nat.{_<_, _≤_};
-ghost use lib.ListN.{getD};
+ghost use lib.Dec.{ltb};
+ghost use lib.ListN.{length, getD};
 ghost use Rattle.links.specs.Rows.{rows, noRow, place};
-ghost use Rattle.links.specs.Sizes.{bytesHeld, imageLength};
+ghost use Rattle.links.specs.Sizes.{openBits, bytesHeld, imageLength};
 
 // A row of Table 4. A pattern or tail is named by its printed name as a hexadecimal number: 0x7a is pattern 7a.
 pub struct Row {
@@ -21,8 +22,16 @@ pub struct Row {
     pub tail: u32,
 }
 
+// How many rows the table has.
+const ROWS: usize = 22;
+
+// The longest block and the longest image of its links.
+pub const LONGEST_BLOCK: usize = 5616;
+
+pub const LONGEST_IMAGE: usize = 12855;
+
 // Table 4: link, k, k1, k2, pattern, tail.
-const TABLE_4: [[u32; 6]; 22] = [
+const TABLE_4: [[u32; 6]; ROWS] = [
     [5, 288, 2, 144, 0x8, 0x8b],
     [6, 672, 2, 336, 0x8, 0x8b],
     [7, 1056, 4, 264, 0x8, 0x8b],
@@ -48,7 +57,7 @@ const TABLE_4: [[u32; 6]; 22] = [
 ];
 
 // Table 4: the primes p1 .. p8 of the same rows.
-const PRIMES: [[u32; 8]; 22] = [
+const PRIMES: [[u32; 8]; ROWS] = [
     [47, 17, 233, 127, 239, 139, 199, 163],
     [37, 101, 191, 149, 79, 131, 229, 31],
     [23, 31, 167, 223, 59, 113, 47, 211],
@@ -74,7 +83,7 @@ const PRIMES: [[u32; 8]; 22] = [
 ];
 
 // N of the same rows, the bits of an image: what the clocks and the tail pass on, proved to be that sum.
-const IMAGE_LENGTHS: [usize; 22] = [
+const IMAGE_LENGTHS: [usize; ROWS] = [
     394,
     906,
     1418,
@@ -99,9 +108,16 @@ const IMAGE_LENGTHS: [usize; 22] = [
     12855,
 ];
 
+// Whether a row stands at a place of the table.
+pub fn has_row(place: usize) -> bool
+    ensures { λ r. ⌜ r ≡ ltb place (length rows) ⌝ }
+{
+    place < ROWS
+}
+
 // The row at a place of the table.
 pub fn row_at(place: usize) -> Row
-    requires { ⌜ place < 22 ⌝ }
+    requires { ⌜ place < length rows ⌝ }
     ensures { λ r. ⌜ r ≡ getD rows place noRow ⌝ }
 {
     let row = TABLE_4[place];
@@ -121,20 +137,28 @@ pub fn place_of(link: u32) -> usize
     ensures { λ r. ⌜ r ≡ place link ⌝ }
 {
     let table = TABLE_4;
-    for i in 0..22 {
+    for i in 0..ROWS {
         if table[i][0] == link {
             return i;
         }
     }
-    22
+    ROWS
 }
 
 // N of the row at a place of the table.
 pub fn image_length_at(place: usize) -> usize
-    requires { ⌜ place < 22 ⌝ }
+    requires { ⌜ place < length rows ⌝ }
     ensures { λ r. ⌜ r ≡ imageLength (getD rows place noRow) ⌝ }
 {
     IMAGE_LENGTHS[place]
+}
+
+// The bits before the check.
+pub fn open_bits(row: Row) -> usize
+    requires { ⌜ 32 ≤ row .k ⌝ }
+    ensures { λ r. ⌜ r ≡ openBits row ⌝ }
+{
+    (row.k - 32) as usize
 }
 
 // The whole bytes that a link holds.
@@ -142,5 +166,5 @@ pub fn bytes_held(row: Row) -> usize
     requires { ⌜ 32 ≤ row .k ⌝ }
     ensures { λ r. ⌜ r ≡ bytesHeld row ⌝ }
 {
-    ((row.k - 32) / 8) as usize
+    open_bits(row) / 8
 }

@@ -1,48 +1,74 @@
 -- What is laid piece by piece is laid as one.
 -- Assumes nothing.
 use mathlib.Core.Path.{_≡_, refl, sym, ap, _∙_}
+use mathlib.Core.Bool.{Bool, true}
 use mathlib.Core.List.{List, [], _∷_, _++_, append-nil, append-assoc}
 use Prim.Native.Nat.{ℕ, suc, _+_, _<_}
 use native.Mathlib.Nat.{add-zero, zero-add, add-assoc}
 use native.Mathlib.Numerals.{add-one}
 use native.Mathlib.Omega.{arith}
 use lib.ListN.{length, set, take, drop, take-append-drop, drop-of-length-le, length-append, length-drop}
-use lib.Seq.{set-split, append-snoc, take-at, drop-at, drop-drop, length-take-le}
+use lib.Seq.{set-split, append-snoc, take-at, drop-at, take-append-le, drop-append-le, take-append-add, drop-append-add, drop-drop, length-take-le}
+use Rattle.lists.specs.Every.{every}
 use Rattle.lists.specs.Over.{over, Room, Lays, Laying}
+use Rattle.lists.proofs.Every.{every-append, every-take, every-drop}
 
--- nothing laid changes nothing
-over-nil : (at : ℕ) (old : List ℕ) → over at [] old ≡ old
+module _ {A : Type 0} where
+  -- nothing laid changes nothing
+  pub over-nil : (at : ℕ) (old : List A) → over at [] old ≡ old
+  unfolding over
+  over-nil at old = rw (add-zero, append-nil) (take-append-drop at old)
+
+  -- laid from the start on
+  pub over-zero : (p old : List A) → over 0 p old ≡ p ++ drop (length p) old
+  unfolding over
+  over-zero p old = rw zero-add
+
+  -- a store lays one element
+  pub over-set : (at : ℕ) (v : A) (old : List A) → at < length old → set old at v ≡ over at (v ∷ []) old
+  unfolding over
+  over-set at v old h = set-split old at v h ∙ sym (append-snoc (take at old) v (drop (suc at) old)) ∙ rw add-one
+
+  front : (at : ℕ) (p old : List A) → Room at p old → length (take at old ++ p) ≡ at + length p
+  front at p old h = length-append (take at old) p ∙ ap (λ (n : ℕ). n + length p) (length-take-le at old (omega arith))
+
+  pub over-length : (at : ℕ) (p old : List A) → Room at p old → length (over at p old) ≡ length old
+  unfolding over
+  over-length at p old h =
+      omega (arith, length-append (take at old ++ p) (drop (at + length p) old), front at p old h, length-drop (at + length p) old)
+
+  -- one piece after another is both as one
+  pub over-over : (at : ℕ) (p q old : List A) → Room at p old → over (at + length p) q (over at p old) ≡ over at (p ++ q) old
+  unfolding over
+  over-over at p q old h =
+      let n = at + length p in
+      let l = take at old ++ p in
+      let f = take-at l (drop n old) n (front at p old h) in
+      let b : drop (n + length q) (l ++ drop n old) ≡ drop (n + length q) old = sym (drop-drop (length q) n (l ++ drop n old)) ∙ ap (drop (length q)) (drop-at l (drop n old) n (front at p old h)) ∙ drop-drop (length q) n old in
+      rw (f, b, length-append p q, ← add-assoc at (length p) (length q), ← append-assoc (take at old) p q)
+
+  -- what is as long as what stood there takes its place whole
+  pub over-all : (p old : List A) → length p ≡ length old → over 0 p old ≡ p
+  over-all p old e = over-zero p old ∙ ap (λ (rest : List A). p ++ rest) (drop-of-length-le old {i = length p} (omega (arith, e))) ∙ append-nil p
+
+  -- laid over the first of two lists, or behind it over the second
+  pub over-first : (at : ℕ) (p a b : List A) → Room at p a → over at p (a ++ b) ≡ over at p a ++ b
+  unfolding over
+  over-first at p a b h =
+      rw (take-append-le at a b (omega arith), drop-append-le (at + length p) a b h, append-assoc (take at a ++ p) (drop (at + length p) a) b)
+
+  pub over-second : (at : ℕ) (p a b : List A) → over (length a + at) p (a ++ b) ≡ a ++ over at p b
+  unfolding over
+  over-second at p a b =
+      rw (take-append-add a b at, add-assoc (length a) at (length p), drop-append-add a b (at + length p), append-assoc a (take at b) p, append-assoc a (take at b ++ p) (drop (at + length p) b))
+
+-- what passes a test, laid over what passes it
+pub over-every : {A : Type 0} (test : A → Bool) (at : ℕ) (p old : List A) → every test p ≡ true → every test old ≡ true → every test (over at p old) ≡ true
 unfolding over
-over-nil at old = rw (add-zero, append-nil) (take-append-drop at old)
+over-every test at p old e f =
+    every-append test (take at old ++ p) (drop (at + length p) old) (every-append test (take at old) p (every-take test at old f) e) (every-drop test (at + length p) old f)
 
--- laid from the start on
-pub over-zero : (p old : List ℕ) → over 0 p old ≡ p ++ drop (length p) old
-unfolding over
-over-zero p old = rw zero-add
-
-over-set : (at v : ℕ) (old : List ℕ) → at < length old → set old at v ≡ over at (v ∷ []) old
-unfolding over
-over-set at v old h = set-split old at v h ∙ sym (append-snoc (take at old) v (drop (suc at) old)) ∙ rw add-one
-
-front : (at : ℕ) (p old : List ℕ) → Room at p old → length (take at old ++ p) ≡ at + length p
-front at p old h = length-append (take at old) p ∙ ap (λ (n : ℕ). n + length p) (length-take-le at old (omega arith))
-
-pub over-length : (at : ℕ) (p old : List ℕ) → Room at p old → length (over at p old) ≡ length old
-unfolding over
-over-length at p old h =
-    omega (arith, length-append (take at old ++ p) (drop (at + length p) old), front at p old h, length-drop (at + length p) old)
-
--- one piece after another is both as one
-pub over-over : (at : ℕ) (p q old : List ℕ) → Room at p old → over (at + length p) q (over at p old) ≡ over at (p ++ q) old
-unfolding over
-over-over at p q old h =
-    let n = at + length p in
-    let l = take at old ++ p in
-    let f = take-at l (drop n old) n (front at p old h) in
-    let b : drop (n + length q) (l ++ drop n old) ≡ drop (n + length q) old = sym (drop-drop (length q) n (l ++ drop n old)) ∙ ap (drop (length q)) (drop-at l (drop n old) n (front at p old h)) ∙ drop-drop (length q) n old in
-    rw (f, b, length-append p q, ← add-assoc at (length p) (length q), ← append-assoc (take at old) p q)
-
--- a store lays one element
+-- a store, as one step of a loop that lays
 pub lays-one : (at v : ℕ) (old : List ℕ) → at < length old → Lays at (v ∷ []) old (set old at v) (at + 1)
 lays-one at v old h = (refl, over-set at v old h)
 
@@ -93,7 +119,3 @@ module _ (at : ℕ) (p q old : List ℕ) {goal : List ℕ} (e : goal ≡ p ++ q)
 
   pub both-laid : {mid new : List ℕ} {between end : ℕ} → Lays at p old mid between → Lays between q mid new end → Lays at goal old new end
   both-laid first second = last (more-piece p q (start old at goal room) e first) second
-
--- what is as long as what stood there takes its place whole
-pub over-all : (p old : List ℕ) → length p ≡ length old → over 0 p old ≡ p
-over-all p old e = over-zero p old ∙ ap (λ (rest : List ℕ). p ++ rest) (drop-of-length-le old {i = length p} (omega (arith, e))) ∙ append-nil p

@@ -4,13 +4,14 @@ use mathlib.Core.List.{List, _++_}
 use Prim.Native.Nat.{ℕ, _+_, _≤_}
 use lib.ListN.{length, take, drop}
 
--- old with p in the places at, at + 1, ..
-unfoldable pub over : ℕ → List ℕ → List ℕ → List ℕ
-over at p old = take at old ++ p ++ drop (at + length p) old
+module _ {A : Type 0} where
+  -- old with p in the places at, at + 1, ..
+  unfoldable pub over : ℕ → List A → List A → List A
+  over at p old = take at old ++ p ++ drop (at + length p) old
 
--- there is room for p from at on
-abbrev pub Room : ℕ → List ℕ → List ℕ → Type 0
-Room at p old = at + length p ≤ length old
+  -- there is room for p from at on
+  abbrev pub Room : ℕ → List A → List A → Type 0
+  Room at p old = at + length p ≤ length old
 
 -- what a function that lays p from at on does: it answers the place behind p
 abbrev pub Lays : ℕ → List ℕ → List ℕ → List ℕ → ℕ → Type 0

@@ -34,7 +34,7 @@ pub shifted-word : (r : ℕ) → r < 2 ^ 15 → r / 2 + byte (output (cells r)) 
 unfolding shifted
 shifted-word r h =
     sym (number-first (output (cells r)) (take 14 (cells r))
-    ∙ rw (take-highFirst 14 r, length-highFirst 14 (r / 2), number-highFirst 14 (r / 2) (omega arith)) (omega arith))
+    ∙ rw (take-highFirst 14 1 r, length-highFirst 14 (r / 2), number-highFirst 14 (r / 2) (omega arith)) (omega arith))
 
 pub length-shifted : (row : List Bool) → length row ≡ 15 → length (shifted row) ≡ 15
 unfolding shifted

@@ -5,13 +5,14 @@ use mathlib.Core.Bool.{Bool, true, false, true≢false, _||_}
 use Prim.Native.Nat.{ℕ, _<_, _≤_}
 use native.Mathlib.Omega.{arith}
 use lib.Dec.{eqb, ltb}
+use lib.ListN.{length}
 use borrow.Author.Tests.{eqb-true, ltb-true}
 use Rattle.links.specs.Good.{longestImage}
 use Rattle.links.specs.Rows.{rows, placeIn, place, offered, rowOf}
 use Rattle.links.specs.Sizes.{imageLength}
 use Rattle.links.proofs.Facts.{sizes}
 use Rattle.links.proofs.Good.{good}
-use Rattle.links.proofs.Search.{row-count, offered-place}
+use Rattle.links.proofs.Search.{offered-place}
 use Rattle.slots.specs.Burst.{isSlotLink}
 
 -- a test that holds of each of them
@@ -34,8 +35,8 @@ pub slot-has-word : (link : ℕ) → isSlotLink link ≡ true → link < 64
 slot-has-word link h = ltb-true link 64 (each (λ n. ltb n 64) refl refl refl link h)
 
 -- the place that was found for one is in the table, and its images are not too long
-pub slot-inside : (link : ℕ) → isSlotLink link ≡ true → {at : ℕ} → at ≡ place link → at < 22
-slot-inside link h found = omega (arith, offered-place link (slot-offered link h), row-count)
+pub slot-inside : (link : ℕ) → isSlotLink link ≡ true → {at : ℕ} → at ≡ place link → at < length rows
+slot-inside link h found = rw found (offered-place link (slot-offered link h))
 
 pub slot-image : (link : ℕ) → isSlotLink link ≡ true → imageLength (rowOf link) ≤ longestImage
 slot-image link h = sizes (rowOf link) (good link (slot-offered link h)) .image

@@ -1,10 +1,13 @@
 -- The test comes before the datagram is laid. Assumes nothing.
 use mathlib.Core.Path.{_≡_, sym, ap₂, _∙_}
 use mathlib.Core.List.{map}
+use Prim.Native.Nat.{_≤_}
 use native.Mathlib.Omega.{arith}
+use lib.ListN.{length-map}
 use Rattle.answers.proofs.Wrote.{refuses, lays}
 use Rattle.bits.specs.Bits.{isOne}
 use Rattle.bits.specs.Row.{differences}
+use Rattle.bits.proofs.Packed.{bytes-known}
 use Rattle.links.proofs.Facts.{sizes}
 use Rattle.blocks.specs.Block.{imageOf}
 use Rattle.blocks.proofs.Blocks.{length-datagram}
@@ -21,6 +24,10 @@ compared c = c .before .before .before
 abbrev start : tie.Else1 → tie.Start
 start c = compared c .before .before .before .before .before .before
 
+-- behind the test
+few : (c : tie.Else1) → compared c .compare .result ≤ start c .args .limit
+few c = omega (arith, c .if1 .left)
+
 compare-requires : tie.Need-compare-requires
 compare-requires c κs = search needs
 
@@ -36,14 +43,20 @@ returns c = refuses (far-refused _ _ _ _ _ (omega (arith, c .before .before .bef
 bytes-held-requires : tie.Need-bytes-held-requires
 bytes-held-requires c κs = sizes _ (start c .pre .0) .check
 
+mul-pack : tie.Need-mul-pack
+mul-pack c = let at = start (c .before) in record { fits = omega (arith, c .bytes-held .ensures, sizes (at .args .row) (at .pre .0) .bytes) }
+
 pack-requires : tie.Need-pack-requires
-pack-requires c κs = search needs
+pack-requires c κs =
+    let at = start (c .before .before) in
+    let held = c .before .bytes-held .ensures in
+    (omega (arith, held, at .pre .1, sizes (at .args .row) (at .pre .0) .whole), omega (arith, held, at .pre .6))
 
 cast-answer : tie.Need-cast-answer
 cast-answer c = search needs
 
 cast-answer-2 : tie.Need-cast-answer-2
-cast-answer-2 c = search needs
+cast-answer-2 c = record { fits = omega (arith, few (c .before .before .before .before .before)) }
 
 answer-requires : tie.Need-answer-requires
 answer-requires c κs = search needs
@@ -59,11 +72,15 @@ returns-2 c =
     let passed = c .before .before .before .before .before .before in
     let a = start passed .args in
     let held = c .before .before .before .before .before .bytes-held .ensures in
-    let count : compared passed .compare .result ≡ differences (imageOf (a .row) (map isOne (a .u .now))) (map isOne (a .came .now)) = omega (arith, compared passed .compare .ensures, passed .if1 .left) in
+    let count : compared passed .compare .result ≡ differences (imageOf (a .row) (map isOne (a .u .now))) (map isOne (a .came .now)) = omega (arith, compared passed .compare .ensures, few passed) in
     lays
-    (near-answered _ _ _ _ _ (omega (arith, count, passed .if1 .left)))
+    (near-answered _ _ _ _ _ (omega (arith, count, few passed)))
     (c .answer .ensures ∙ ap₂ found (held ∙ sym (length-datagram (a .row) (map isOne (a .u .now)))) count)
-    (datagram-laid (a .row) (map isOne (a .u .now)) (a .out .now) _ held (c .before .before .before .pack .ensures))
+    (datagram-laid (a .row) (map isOne (a .u .now)) (a .out .now) _ held
+    (bytes-known (a .out .now) (λ i. compared passed .before .before .slice-known2 .given i .fits))
+    (omega (arith, held, length-map (a .u .now) isOne, start passed .pre .1, sizes (a .row) (start passed .pre .0) .whole))
+    (omega (arith, held, start passed .pre .6))
+    (c .before .before .before .pack .ensures))
 
 pub accept-spec : {M : Type 1} → statement M
 accept-spec =
@@ -74,6 +91,7 @@ accept-spec =
     same-length
     returns
     bytes-held-requires
+    mul-pack
     pack-requires
     cast-answer
     cast-answer-2

@@ -7,6 +7,7 @@ use native.Mathlib.Omega.{arith}
 use lib.ListN.{length}
 use Rattle.bits.specs.Bits.{isOne}
 use Rattle.bits.specs.Row.{differences}
+use Rattle.links.specs.Good.{longestBlock}
 use Rattle.links.proofs.Facts.{sizes}
 use Rattle.accepting.proofs.Comparing.{image-long, image-bits, image-there}
 use Rattle.images.proofs.Lent.{scratch-enough, length-lent}
@@ -14,24 +15,24 @@ use borrow.Author.Needs.{needs}
 use Rattle.accepting.proofs.compare.Statement.{statement}
 use Rattle.accepting.proofs.compare.Tie as tie
 
-short : (c : tie.After-block) → length (c .before .before .before .before .args .u .now) ≤ 5616
+short : (c : tie.After-block) → length (c .before .before .before .before .args .u .now) ≤ longestBlock
 short c = let start = c .before .before .before .before in omega (arith, start .pre .1, sizes _ (start .pre .0) .block)
 
 block-requires : tie.Need-block-requires
 block-requires c κs = search needs
 
 array-borrow-prefix-v : tie.Need-array-borrow-prefix-v
-array-borrow-prefix-v c = scratch-enough 5616 _ (c .block .ensures) (short c)
+array-borrow-prefix-v c = scratch-enough longestBlock _ (c .block .ensures) (short c)
 
 slice-aggregate-lay-image : tie.Need-slice-aggregate-lay-image
-slice-aggregate-lay-image c = sym (length-lent 5616 _ (c .before .block .ensures) (short (c .before)))
+slice-aggregate-lay-image c = sym (length-lent longestBlock _ (c .before .block .ensures) (short (c .before)))
 
 lay-image-requires : tie.Need-lay-image-requires
 lay-image-requires c κs =
     let start = c .before .before .before .before .before .before in (
       start .pre .0,
       start .pre .1,
-      length-lent 5616 _ (c .before .before .block .ensures) (short (c .before .before)) ∙ start .pre .1,
+      length-lent longestBlock _ (c .before .before .block .ensures) (short (c .before .before)) ∙ start .pre .1,
       start .pre .2,
       omega (arith, start .pre .5),
     )

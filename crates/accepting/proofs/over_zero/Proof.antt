@@ -1,5 +1,5 @@
 -- Bit by bit: what is left to test at i decides. Assumes nothing.
-use mathlib.Core.Path.{_≡_, refl, sym, ap, _∙_}
+use mathlib.Core.Path.{_≡_, refl, sym, ap₂, _∙_}
 use Prim.Native.Nat.{ℕ, _-_, _*_, _≤_}
 use native.Mathlib.Omega.{arith}
 use lib.ListN.{length}
@@ -16,11 +16,8 @@ Inv-loop u end i₀ i = (i₀ ≤ i) × (i ≤ end) × (end ≤ length u) × (le
 abbrev μ-loop : tie.MeasureT-loop
 μ-loop u end i₀ i = end - i
 
-sub-end : tie.Need-sub-end Inv-loop μ-loop
-sub-end c = sizes (c .before .before .args .row) (c .before .before .pre .0) .check
-
-cast-end : tie.Need-cast-end Inv-loop μ-loop
-cast-end c = search needs
+open-bits-requires : tie.Need-open-bits-requires Inv-loop μ-loop
+open-bits-requires c κs = sizes (c .before .args .row) (c .before .pre .0) .check
 
 bytes-held-requires : tie.Need-bytes-held-requires Inv-loop μ-loop
 bytes-held-requires c κs = sizes (c .before .before .args .row) (c .before .before .pre .0) .check
@@ -32,7 +29,7 @@ loop-holds : tie.Need-loop-holds Inv-loop μ-loop
 loop-holds c =
     let start = c .before .before .before in
     let z = sizes (start .args .row) (start .pre .0) in
-    (search needs, omega (arith, c .bytes-held .ensures, z .whole), omega (arith, start .pre .1), refl)
+    (search needs, omega (arith, c .bytes-held .ensures, c .before .open-bits .ensures, z .whole), omega (arith, c .before .open-bits .ensures, start .pre .1), refl)
 
 shared-slice-read-if1 : tie.Need-shared-slice-read-if1 Inv-loop μ-loop
 shared-slice-read-if1 c = search needs
@@ -41,11 +38,10 @@ returns : tie.Need-returns Inv-loop μ-loop
 unfolding codingOf
 returns c =
     let at = c .before .before .before .loop in
-    let start = c .before .before .before .before .before .before .before in
-    let u = start .args .u .now in
-    let end = start .args .row .k - 32 in
-    sym (over-one u end (at .inv .2) (at .i) (omega arith) (c .if1 .taken))
-    ∙ at .inv .3 ∙ ap (λ (n : ℕ). leftOver u end (n * 8)) (c .before .before .before .before .bytes-held .ensures)
+    let sized = c .before .before .before .before in
+    let u = sized .before .before .before .args .u .now in
+    sym (over-one u _ (at .inv .2) (at .i) (omega arith) (c .if1 .taken))
+    ∙ at .inv .3 ∙ ap₂ (λ (end n : ℕ). leftOver u end (n * 8)) (sized .before .open-bits .ensures) (sized .bytes-held .ensures)
 
 add-i : tie.Need-add-i Inv-loop μ-loop
 add-i c = search needs
@@ -63,11 +59,10 @@ returns-2 : tie.Need-returns-2 Inv-loop μ-loop
 unfolding codingOf
 returns-2 c =
     let at = c .before .loop in
-    let start = c .before .before .before .before .before in
-    let u = start .args .u .now in
-    let end = start .args .row .k - 32 in
-    sym (over-done u end (at .inv .2) (at .i) (omega arith))
-    ∙ at .inv .3 ∙ ap (λ (n : ℕ). leftOver u end (n * 8)) (c .before .before .bytes-held .ensures)
+    let sized = c .before .before in
+    let u = sized .before .before .before .args .u .now in
+    sym (over-done u _ (at .inv .2) (at .i) (omega arith))
+    ∙ at .inv .3 ∙ ap₂ (λ (end n : ℕ). leftOver u end (n * 8)) (sized .before .open-bits .ensures) (sized .bytes-held .ensures)
 
 pub over-zero-spec : {M : Type 1} → statement M
 over-zero-spec =
@@ -75,8 +70,7 @@ over-zero-spec =
     (tie.spec
     Inv-loop
     μ-loop
-    sub-end
-    cast-end
+    open-bits-requires
     bytes-held-requires
     mul-i
     loop-holds

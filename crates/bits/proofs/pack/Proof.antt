@@ -1,70 +1,84 @@
--- Byte by byte: what is left to lay at j is what the row from j * 8 on makes. Assumes nothing.
-use mathlib.Core.List.{map}
-use Prim.Native.Nat.{_≤_, _-_, _*_}
-use native.Mathlib.Nat.{sub-zero}
+-- Within one byte; or up to its end, and then from the next byte on. Assumes nothing.
+use mathlib.Core.Path.{sym}
+use Prim.Native.Nat.{_-_, _%_}
 use native.Mathlib.Omega.{arith}
-use lib.ListN.{drop}
+use lib.Seq.{length-take-le}
 use borrow.Author.Needs.{needs}
-use Rattle.lists.specs.Over.{Laying}
-use Rattle.lists.proofs.Over.{start, fits, more, done}
-use Rattle.bits.specs.Bits.{isOne}
-use Rattle.bits.specs.Datagram.{bytesOf}
-use Rattle.bits.proofs.Datagram.{length-bytesOf, bytes-more, bytes-done}
+use Rattle.bits.proofs.Packing.{within-byte, byte-and-rest}
 use Rattle.bits.proofs.pack.Statement.{statement}
 use Rattle.bits.proofs.pack.Tie as tie
 
-abbrev Inv-loop : tie.InvT-loop
-Inv-loop row count out₀ j₀ out j =
-    (j ≤ count) × Laying out₀ 0 (bytesOf count (map isOne row)) out j (bytesOf (count - j) (map isOne (drop (j * 8) row)))
+sub-head : tie.Need-sub-head
+sub-head c = search needs
 
-abbrev μ-loop : tie.MeasureT-loop
-μ-loop row count out₀ j₀ out j = count - j
+slice-aggregate-pack-part : tie.Need-slice-aggregate-pack-part
+slice-aggregate-pack-part c = let start = c .before .before .before .before in sym (length-take-le (start .args .n) (start .args .row .now) (start .pre .0))
 
-loop-holds : tie.Need-loop-holds Inv-loop μ-loop
-loop-holds c =
-    let a = c .before .before .args in
-    (search needs, rw sub-zero (start (a .out .now) 0 (bytesOf (a .count) (map isOne (a .row .now))) (simp length-bytesOf (omega arith))))
+pack-part-requires : tie.Need-pack-part-requires
+pack-part-requires c κs =
+    let start = c .before .before .before .before .before in
+    let long = length-take-le (start .args .n) (start .args .row .now) (start .pre .0) in
+    (omega arith, omega arith)
 
-byte-at-requires : tie.Need-byte-at-requires Inv-loop μ-loop
-byte-at-requires c κs = search needs
+slice-aggregate-pack-part-2 : tie.Need-slice-aggregate-pack-part-2
+slice-aggregate-pack-part-2 c = let start = c .before .before .before .before in sym (length-take-le (8 - start .args .at % 8) (start .args .row .now) (omega arith))
 
-slice-write-out : tie.Need-slice-write-out Inv-loop μ-loop
-slice-write-out c =
-    let a = c .before .before .before .before .before .args in
-    let at = c .before .before .loop in
-    fits _ _ (at .inv .1) (bytes-more (a .count) (at .j) (a .row .now) (omega arith))
+pack-part-requires-2 : tie.Need-pack-part-requires-2
+pack-part-requires-2 c κs =
+    let start = c .before .before .before .before .before in
+    let long = length-take-le (8 - start .args .at % 8) (start .args .row .now) (omega arith) in
+    (omega arith, omega arith)
 
-add-j : tie.Need-add-j Inv-loop μ-loop
-add-j c = search needs
+sub-pack-from : tie.Need-sub-pack-from
+sub-pack-from c = search needs
 
-loop-less : tie.Need-loop-less Inv-loop μ-loop
-loop-less c = search needs
+part-pack-from-start : tie.Need-part-pack-from-start
+part-pack-from-start c = search needs
 
-loop-again : tie.Need-loop-again Inv-loop μ-loop
-loop-again c =
-    let a = c .before .before .before .before .before .args in
-    let at = c .before .before .loop in
-    (search needs, rw (c .byte-at .ensures) (more _ _ (at .inv .1) (bytes-more (a .count) (at .j) (a .row .now) (omega arith))))
+part-pack-from-end : tie.Need-part-pack-from-end
+part-pack-from-end c = search needs
 
-same-length : tie.Need-same-length Inv-loop μ-loop
-same-length c = c .before .loop .inv .1 .long
+add-pack-from : tie.Need-add-pack-from
+add-pack-from c = search needs
 
-returns : tie.Need-returns Inv-loop μ-loop
+pack-from-requires : tie.Need-pack-from-requires
+pack-from-requires c κs = search needs
+
+same-length : tie.Need-same-length
+same-length c = search needs
+
+returns : tie.Need-returns
 returns c =
-    let a = c .before .before .before .before .args in
-    done (c .before .loop .inv .1) (bytes-done (a .count) (c .before .loop .j) (a .row .now) (omega arith)) .1
+    let start = c .before .before .before .before .before .before .before .before in
+    let a = start .args in
+    within-byte (a .at) (a .n) (a .row .now) (a .out .now) (start .pre .0) (c .before .before .pack-part .ensures)
+
+same-length-2 : tie.Need-same-length-2
+same-length-2 c = search needs
+
+returns-2 : tie.Need-returns-2
+returns-2 c =
+    let start = c .before .before .before .before .before .before .before .before .before .before .before .before .before in
+    let a = start .args in
+    byte-and-rest (a .at) (a .n) (a .row .now) (a .out .now) (start .pre .0) _ _ (omega (arith, c .before .before .before .before .before .before .before .before .before .before .if1 .left)) (start .pre .1)
+    (c .before .before .before .before .before .before .before .pack-part2 .ensures)
+    (c .before .before .pack-from .ensures)
 
 pub pack-spec : {M : Type 1} → statement M
 pack-spec =
     tie.close
     (tie.spec
-    Inv-loop
-    μ-loop
-    loop-holds
-    byte-at-requires
-    slice-write-out
-    add-j
-    loop-less
-    loop-again
+    sub-head
+    slice-aggregate-pack-part
+    pack-part-requires
+    slice-aggregate-pack-part-2
+    pack-part-requires-2
+    sub-pack-from
+    part-pack-from-start
+    part-pack-from-end
+    add-pack-from
+    pack-from-requires
     same-length
-    returns)
+    returns
+    same-length-2
+    returns-2)

@@ -1,106 +1,86 @@
--- Byte by byte, and the rest bit by bit: what is left to lay at a place is the filled row from there on. Assumes nothing.
-use mathlib.Core.Path.{_≡_, ap, _∙_}
-use mathlib.Core.List.{map}
-use Prim.Native.Nat.{ℕ, _≤_, _-_, _*_, _/_}
+-- Byte by byte, and then the rest: what is left to lay at a place is the filled row from there on. Assumes nothing.
+use mathlib.Core.Path.{_≡_, refl, sym, ap, _∙_}
+use mathlib.Core.List.{List, map}
+use Prim.Native.Nat.{ℕ, _+_, _-_, _*_, _/_, _≤_}
 use native.Mathlib.Omega.{arith}
 use lib.ListN.{drop, length-map}
 use borrow.Author.Needs.{needs}
 use Rattle.lists.specs.Over.{over, Laying}
-use Rattle.lists.proofs.Over.{start, fits, fits-rest, more, more-piece, last, done}
+use Rattle.lists.proofs.Over.{start, more-piece, last}
 use Rattle.bits.specs.Bits.{byte}
 use Rattle.bits.specs.Datagram.{bitsOf, filled}
-use Rattle.bits.specs.Row.{highFirst}
-use Rattle.bits.proofs.Datagram.{filled-byte}
-use Rattle.bits.proofs.Filled.{length-filled, filled-more, filled-done}
+use Rattle.bits.proofs.Filled.{length-filled}
 use Rattle.bits.proofs.Row.{length-highFirst}
+use Rattle.bits.proofs.Unpacked.{next-laid, last-laid}
 use Rattle.bits.proofs.unpack.Statement.{statement}
 use Rattle.bits.proofs.unpack.Tie as tie
 
 abbrev Inv-loop : tie.InvT-loop
-Inv-loop datagram n row₀ j₀ j-end row j =
-    (j ≤ j-end) × (j-end ≡ n / 8) × Laying row₀ 0 (map byte (filled n (bitsOf datagram))) row (j * 8) (map byte (drop (j * 8) (filled n (bitsOf datagram))))
+Inv-loop datagram from n row₀ j₀ j-end row j =
+    (j ≤ j-end) × (j-end ≡ n / 8) × Laying row₀ 0 (map byte (filled n (drop from (bitsOf datagram)))) row (j * 8) (map byte (drop (j * 8) (filled n (drop from (bitsOf datagram)))))
 
 abbrev μ-loop : tie.MeasureT-loop
-μ-loop datagram n row₀ j₀ j-end row j = j-end - j
+μ-loop datagram from n row₀ j₀ j-end row j = j-end - j
 
-abbrev Inv-loop2 : tie.InvT-loop2
-Inv-loop2 datagram n row₀ i₀ row i =
-    (i ≤ n) × Laying row₀ i₀ (map byte (drop i₀ (filled n (bitsOf datagram)))) row i (map byte (drop i (filled n (bitsOf datagram))))
-
-abbrev μ-loop2 : tie.MeasureT-loop2
-μ-loop2 datagram n row₀ i₀ row i = n - i
-
-loop-holds : tie.Need-loop-holds Inv-loop μ-loop Inv-loop2 μ-loop2
+loop-holds : tie.Need-loop-holds Inv-loop μ-loop
 loop-holds c =
     let a = c .before .before .args in
-    (search needs, search needs, start (a .row .now) 0 (map byte (filled (a .n) (bitsOf (a .datagram .now)))) (simp (length-map, length-filled) (omega arith)))
+    (search needs, search needs, start (a .row .now) 0 (map byte (filled (a .n) (drop (a .from) (bitsOf (a .datagram .now))))) (simp (length-map, length-filled) (omega arith)))
 
-datagram-byte-requires : tie.Need-datagram-byte-requires Inv-loop μ-loop Inv-loop2 μ-loop2
-datagram-byte-requires c κs = search needs
+mul-bits-from : tie.Need-mul-bits-from Inv-loop μ-loop
+mul-bits-from c = search needs
 
-cast-lay-bits : tie.Need-cast-lay-bits Inv-loop μ-loop Inv-loop2 μ-loop2
-cast-lay-bits c = search needs
+add-bits-from : tie.Need-add-bits-from Inv-loop μ-loop
+add-bits-from c = search needs
 
-mul-lay-bits : tie.Need-mul-lay-bits Inv-loop μ-loop Inv-loop2 μ-loop2
+bits-from-requires : tie.Need-bits-from-requires Inv-loop μ-loop
+bits-from-requires c κs = search needs
+
+mul-lay-bits : tie.Need-mul-lay-bits Inv-loop μ-loop
 mul-lay-bits c = search needs
 
-lay-bits-requires : tie.Need-lay-bits-requires Inv-loop μ-loop Inv-loop2 μ-loop2
+lay-bits-requires : tie.Need-lay-bits-requires Inv-loop μ-loop
 lay-bits-requires c κs = (search needs, omega (arith, c .before .before .before .loop .inv .2 .long))
 
-add-j : tie.Need-add-j Inv-loop μ-loop Inv-loop2 μ-loop2
+add-j : tie.Need-add-j Inv-loop μ-loop
 add-j c = search needs
 
-loop-less : tie.Need-loop-less Inv-loop μ-loop Inv-loop2 μ-loop2
+loop-less : tie.Need-loop-less Inv-loop μ-loop
 loop-less c = search needs
 
-loop-again : tie.Need-loop-again Inv-loop μ-loop Inv-loop2 μ-loop2
+loop-again : tie.Need-loop-again Inv-loop μ-loop
 loop-again c =
     let a = c .before .before .before .before .before .before .before .before .before .args in
     let at = c .before .before .before .before .before .before .loop in
-    let d = a .datagram .now in
-    let laid = c .before .before .lay-bits .ensures ∙ ap (λ (x : ℕ). over (at .j * 8) (map byte (highFirst 8 x)) (at .row)) (c .before .before .before .before .datagram-byte .ensures) in
-    (search needs, search needs, more-piece _ _ (at .inv .2) (filled-byte (a .n) (at .j) d (omega arith)) (simp (length-map, length-highFirst) (omega arith), laid))
+    let next : at .j * 8 + 8 ≡ (at .j + 1) * 8 = omega arith in
+    let laid = next-laid (a .n) (a .from) (at .j * 8) (bitsOf (a .datagram .now)) 8 _ (omega arith) (c .before .before .before .before .bits-from .ensures) in
+    (search needs, search needs, more-piece _ _ (at .inv .2) (rw next at laid) (simp (length-map, length-highFirst) (omega arith), c .before .before .lay-bits .ensures))
 
-mul-i : tie.Need-mul-i Inv-loop μ-loop Inv-loop2 μ-loop2
-mul-i c = search needs
+mul-whole : tie.Need-mul-whole Inv-loop μ-loop
+mul-whole c = search needs
 
-loop2-holds : tie.Need-loop2-holds Inv-loop μ-loop Inv-loop2 μ-loop2
-loop2-holds c =
-    let a = c .before .before .before .before .args in
-    let end : c .before .loop .j ≡ a .n / 8 = omega arith in
-    (search needs, start (c .before .loop .row) _ _ (fits-rest (rw end at (c .before .loop .inv .2))))
+sub-rest : tie.Need-sub-rest Inv-loop μ-loop
+sub-rest c = search needs
 
-bit-at-requires : tie.Need-bit-at-requires Inv-loop μ-loop Inv-loop2 μ-loop2
-bit-at-requires c κs = search needs
+add-bits-from-2 : tie.Need-add-bits-from-2 Inv-loop μ-loop
+add-bits-from-2 c = search needs
 
-slice-write-row : tie.Need-slice-write-row Inv-loop μ-loop Inv-loop2 μ-loop2
-slice-write-row c =
-    let a = c .before .before .before .before .before .before .before .args in
-    let at = c .before .before .loop2 in
-    fits _ _ (at .inv .1) (filled-more (a .n) (at .i) (bitsOf (a .datagram .now)) (omega arith))
+bits-from-requires-2 : tie.Need-bits-from-requires-2 Inv-loop μ-loop
+bits-from-requires-2 c κs = search needs
 
-add-i : tie.Need-add-i Inv-loop μ-loop Inv-loop2 μ-loop2
-add-i c = search needs
+lay-bits-requires-2 : tie.Need-lay-bits-requires-2 Inv-loop μ-loop
+lay-bits-requires-2 c κs = (search needs, omega (arith, c .before .before .before .loop .inv .2 .long))
 
-loop2-less : tie.Need-loop2-less Inv-loop μ-loop Inv-loop2 μ-loop2
-loop2-less c = search needs
+same-length : tie.Need-same-length Inv-loop μ-loop
+same-length c = search needs
 
-loop2-again : tie.Need-loop2-again Inv-loop μ-loop Inv-loop2 μ-loop2
-loop2-again c =
-    let a = c .before .before .before .before .before .before .before .args in
-    let at = c .before .before .loop2 in
-    (search needs, rw (c .bit-at .ensures) (more _ _ (at .inv .1) (filled-more (a .n) (at .i) (bitsOf (a .datagram .now)) (omega arith))))
-
-same-length : tie.Need-same-length Inv-loop μ-loop Inv-loop2 μ-loop2
-same-length c = c .before .loop2 .inv .1 .long ∙ c .before .before .before .loop .inv .2 .long
-
-returns : tie.Need-returns Inv-loop μ-loop Inv-loop2 μ-loop2
+returns : tie.Need-returns Inv-loop μ-loop
 returns c =
-    let a = c .before .before .before .before .before .before .args in
-    let bytes = c .before .before .before .loop in
-    let bits = c .before .loop2 in
-    let end : bytes .j ≡ a .n / 8 = omega arith in
-    last (rw end at (bytes .inv .2)) (done (bits .inv .1) (filled-done (a .n) (bits .i) (bitsOf (a .datagram .now)) (omega arith))) .1
+    let a = c .before .before .before .before .before .before .before .before .before .args in
+    let at = c .before .before .before .before .before .before .loop in
+    let end : at .j ≡ a .n / 8 = omega arith in
+    let laid = last-laid (a .n) (a .from) (a .n / 8 * 8) (bitsOf (a .datagram .now)) _ (c .before .before .before .before .bits-from2 .ensures) in
+    last (rw end at (at .inv .2)) (refl, c .before .before .lay-bits2 .ensures ∙ ap (λ (l : List ℕ). over (a .n / 8 * 8) l (at .row)) (sym laid)) .1
 
 pub unpack-spec : {M : Type 1} → statement M
 unpack-spec =
@@ -108,22 +88,19 @@ unpack-spec =
     (tie.spec
     Inv-loop
     μ-loop
-    Inv-loop2
-    μ-loop2
     loop-holds
-    datagram-byte-requires
-    cast-lay-bits
+    mul-bits-from
+    add-bits-from
+    bits-from-requires
     mul-lay-bits
     lay-bits-requires
     add-j
     loop-less
     loop-again
-    mul-i
-    loop2-holds
-    bit-at-requires
-    slice-write-row
-    add-i
-    loop2-less
-    loop2-again
+    mul-whole
+    sub-rest
+    add-bits-from-2
+    bits-from-requires-2
+    lay-bits-requires-2
     same-length
     returns)

@@ -1,7 +1,7 @@
 -- All four refusals come before the row is read. Assumes nothing.
 use mathlib.Core.Path.{_≡_, sym, ap, _∙_}
 use mathlib.Core.Bool.{true}
-use Prim.Native.Nat.{_≤_}
+use Prim.Native.Nat.{_<_, _≤_}
 use native.Mathlib.Omega.{arith}
 use lib.ListN.{length}
 use borrow.Author.Tests.{ltb-true, ltb-false}
@@ -9,37 +9,43 @@ use borrow.Author.Needs.{needs}
 use Rattle.answers.proofs.Wrote.{refuses}
 use Rattle.bits.specs.Bits.{allBits}
 use Rattle.lists.proofs.Tests.{holds, fails, equal, unequal}
-use Rattle.links.specs.Rows.{offered, rowOf}
+use Rattle.links.specs.Rows.{rows, offered, rowOf}
 use Rattle.links.specs.Sizes.{bytesHeld, imageLength}
 use Rattle.links.proofs.Facts.{sizes}
 use Rattle.links.proofs.Good.{good}
-use Rattle.links.proofs.Search.{found-offered, found-none, found-row}
+use Rattle.links.proofs.Search.{found-offered, found-row}
 use Rattle.blocks.proofs.Calls.{read-unoffered, read-length, read-short, read-no-bit, read-tried}
 use Rattle.links.proofs.FoundRow.{row-is, row-good}
 use Rattle.block_reader.proofs.read.Statement.{statement}
 use Rattle.block_reader.proofs.read.Tie as tie
 
 -- ---- what is known of the arguments behind each test that did not refuse
-abbrev start : tie.After-place-of → tie.Start
-start c = c .before .before .before
+abbrev found : tie.Else1 → tie.After-place-of
+found c = c .before .before
 
-offers : (c : tie.Else1) → offered (start (c .before) .args .link) ≡ true
-offers c = found-offered _ (c .before .place-of .ensures) (c .if1 .left)
+abbrev start : tie.Else1 → tie.Start
+start c = found c .before .before .before
+
+inside : (c : tie.Else1) → found c .place-of .result < length rows
+inside c = ltb-true _ _ (holds (c .before .has-row .ensures) (c .if1 .left))
+
+offers : (c : tie.Else1) → offered (start c .args .link) ≡ true
+offers c = found-offered _ (found c .place-of .ensures) (holds (c .before .has-row .ensures) (c .if1 .left))
 
 abbrev placed : tie.After-bytes-held → tie.Else1
 placed c = c .before .before .before
 
 abbrev begun : tie.After-bytes-held → tie.Start
-begun c = start (placed c .before)
+begun c = start (placed c)
 
 row : (c : tie.After-bytes-held) → c .before .before .row-at .result ≡ rowOf (begun c .args .link)
-row c = row-is _ (placed c .before .place-of .ensures) (placed c .if1 .left) (c .before .before .row-at .ensures)
+row c = row-is _ (found (placed c) .place-of .ensures) (c .before .before .row-at .ensures)
 
 held : (c : tie.After-bytes-held) → c .bytes-held .result ≡ bytesHeld (rowOf (begun c .args .link))
 held c = c .bytes-held .ensures ∙ ap bytesHeld (row c)
 
 long : (c : tie.After-bytes-held) → c .before .image-length-at .result ≡ imageLength (rowOf (begun c .args .link))
-long c = c .before .image-length-at .ensures ∙ ap imageLength (found-row _ (placed c .before .place-of .ensures))
+long c = c .before .image-length-at .ensures ∙ ap imageLength (found-row _ (found (placed c) .place-of .ensures))
 
 size : (c : tie.Else2) → length (begun (c .before) .args .bits .now) ≡ imageLength (rowOf (begun (c .before) .args .link))
 size c = equal (length (begun (c .before) .args .bits .now)) (c .before .before .image-length-at .result) (c .if2 .left) ∙ long (c .before)
@@ -55,22 +61,27 @@ all c = holds (c .before .before .all-bits .ensures) (c .if4 .left)
 place-of-requires : tie.Need-place-of-requires
 place-of-requires c κs = search needs
 
+has-row-requires : tie.Need-has-row-requires
+has-row-requires c κs = search needs
+
 refuse-requires : tie.Need-refuse-requires
 refuse-requires c κs = search needs
 
 returns : tie.Need-returns
-returns c = refuses (read-unoffered _ _ _ (found-none _ (c .before .before .place-of .ensures) (c .before .if1 .taken))) (c .refuse .ensures)
+returns c =
+    let at = c .before .before in
+    refuses (read-unoffered _ _ _ (found-offered _ (at .before .place-of .ensures) (fails (at .has-row .ensures) (c .before .if1 .taken)))) (c .refuse .ensures)
 
 row-at-requires : tie.Need-row-at-requires
-row-at-requires c κs = search needs
+row-at-requires c κs = inside c
 
 image-length-at-requires : tie.Need-image-length-at-requires
-image-length-at-requires c κs = search needs
+image-length-at-requires c κs = inside (c .before)
 
 bytes-held-requires : tie.Need-bytes-held-requires
 bytes-held-requires c κs =
-    let found = c .before .before .before .place-of .ensures in
-    sizes (c .before .row-at .result) (row-good _ found (c .before .before .if1 .left) (c .before .row-at .ensures)) .check
+    let passed = c .before .before in
+    sizes (c .before .row-at .result) (row-good _ (found passed .place-of .ensures) (c .before .row-at .ensures) (offers passed)) .check
 
 refuse-requires-2 : tie.Need-refuse-requires-2
 refuse-requires-2 c κs = search needs
@@ -126,6 +137,7 @@ read-spec =
     tie.close
     (tie.spec
     place-of-requires
+    has-row-requires
     refuse-requires
     returns
     row-at-requires

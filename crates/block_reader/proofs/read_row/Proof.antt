@@ -3,16 +3,17 @@ use mathlib.Core.Path.{sym, _∙_}
 use Prim.Native.Nat.{_≤_}
 use native.Mathlib.Omega.{arith}
 use lib.ListN.{length}
+use Rattle.links.specs.Good.{longestBlock, longestImage}
 use Rattle.links.proofs.Facts.{sizes}
 use Rattle.images.proofs.Lent.{scratch-enough, length-lent}
 use borrow.Author.Needs.{needs}
 use Rattle.block_reader.proofs.read_row.Statement.{statement}
 use Rattle.block_reader.proofs.read_row.Tie as tie
 
-short : (c : tie.After-image) → c .before .before .before .before .before .args .row .k ≤ 5616
+short : (c : tie.After-image) → c .before .before .before .before .before .args .row .k ≤ longestBlock
 short c = sizes _ (c .before .before .before .before .before .pre .0) .block
 
-image-short : (c : tie.After-image) → length (c .before .before .before .before .before .args .came .now) ≤ 12855
+image-short : (c : tie.After-image) → length (c .before .before .before .before .before .args .came .now) ≤ longestImage
 image-short c = let start = c .before .before .before .before .before in omega (arith, start .pre .1, sizes _ (start .pre .0) .image)
 
 cast-k : tie.Need-cast-k
@@ -25,16 +26,16 @@ image-requires : tie.Need-image-requires
 image-requires c κs = search needs
 
 array-borrow-prefix-u : tie.Need-array-borrow-prefix-u
-array-borrow-prefix-u c = scratch-enough 5616 _ (c .before .block .ensures) (short c)
+array-borrow-prefix-u c = scratch-enough longestBlock _ (c .before .block .ensures) (short c)
 
 slice-aggregate-read-block : tie.Need-slice-aggregate-read-block
-slice-aggregate-read-block c = sym (length-lent 5616 _ (c .before .before .block .ensures) (short (c .before)))
+slice-aggregate-read-block c = sym (length-lent longestBlock _ (c .before .before .block .ensures) (short (c .before)))
 
 array-borrow-prefix-image : tie.Need-array-borrow-prefix-image
-array-borrow-prefix-image c = scratch-enough 12855 _ (c .before .image .ensures) (image-short (c .before))
+array-borrow-prefix-image c = scratch-enough longestImage _ (c .before .image .ensures) (image-short (c .before))
 
 slice-aggregate-read-block-2 : tie.Need-slice-aggregate-read-block-2
-slice-aggregate-read-block-2 c = sym (length-lent 12855 _ (c .before .before .image .ensures) (image-short (c .before .before)))
+slice-aggregate-read-block-2 c = sym (length-lent longestImage _ (c .before .before .image .ensures) (image-short (c .before .before)))
 
 read-block-requires : tie.Need-read-block-requires
 read-block-requires c κs =
@@ -43,8 +44,8 @@ read-block-requires c κs =
       start .pre .0,
       start .pre .1,
       start .pre .2,
-      length-lent 5616 _ (at .before .block .ensures) (short at),
-      length-lent 12855 _ (at .image .ensures) (image-short at) ∙ start .pre .1,
+      length-lent longestBlock _ (at .before .block .ensures) (short at),
+      length-lent longestImage _ (at .image .ensures) (image-short at) ∙ start .pre .1,
       start .pre .3,
     )
 

@@ -1,56 +1,69 @@
 -- All three refusals come before the first byte is laid. Assumes nothing.
 use mathlib.Core.Path.{_≡_, ap, _∙_}
 use mathlib.Core.Bool.{true}
-use Prim.Native.Nat.{_≤_}
+use Prim.Native.Nat.{_<_, _≤_}
 use native.Mathlib.Nat.{zero-add}
 use native.Mathlib.Omega.{arith}
 use lib.Dec.{T}
 use lib.ListN.{length}
 use borrow.Author.Needs.{needs}
+use borrow.Author.Tests.{ltb-true}
 use Rattle.answers.specs.Written.{wrote}
 use Rattle.answers.proofs.Task.{write-unoffered, write-long, write-short, write-done}
 use Rattle.answers.proofs.Wrote.{refuses, lays}
 use Rattle.lists.proofs.Over.{over-zero}
-use Rattle.links.specs.Rows.{offered, rowOf}
+use Rattle.lists.proofs.Tests.{holds, fails}
+use Rattle.links.specs.Rows.{rows, offered, rowOf}
 use Rattle.links.specs.Sizes.{bytesHeld, imageLength}
 use Rattle.links.specs.Good.{goodRow}
 use Rattle.links.proofs.Facts.{sizes}
-use Rattle.links.proofs.Search.{found-offered, found-none, found-row}
+use Rattle.links.proofs.Search.{found-offered, found-row}
 use Rattle.blocks.proofs.Blocks.{long-image}
 use Rattle.links.proofs.FoundRow.{row-is, row-good}
 use Rattle.block_writer.proofs.write.Statement.{statement}
 use Rattle.block_writer.proofs.write.Tie as tie
 
 -- ---- what is known of the arguments behind each test that did not refuse
+abbrev placed : tie.Else1 → tie.After-place-of
+placed c = c .before .before
+
 abbrev start : tie.Else1 → tie.Start
-start c = c .before .before .before .before
+start c = placed c .before .before .before
+
+inside : (c : tie.Else1) → placed c .place-of .result < length rows
+inside c = ltb-true _ _ (holds (c .before .has-row .ensures) (c .if1 .left))
 
 offers : (c : tie.Else1) → offered (start c .args .link) ≡ true
-offers c = found-offered _ (c .before .place-of .ensures) (c .if1 .left)
+offers c = found-offered _ (placed c .place-of .ensures) (holds (c .before .has-row .ensures) (c .if1 .left))
 
 row : (c : tie.After-row-at) → c .row-at .result ≡ rowOf (start (c .before) .args .link)
-row c = row-is _ (c .before .before .place-of .ensures) (c .before .if1 .left) (c .row-at .ensures)
+row c = row-is _ (placed (c .before) .place-of .ensures) (c .row-at .ensures)
 
 is-good : (c : tie.After-row-at) → T (goodRow (c .row-at .result))
-is-good c = row-good _ (c .before .before .place-of .ensures) (c .before .if1 .left) (c .row-at .ensures)
+is-good c = row-good _ (placed (c .before) .place-of .ensures) (c .row-at .ensures) (offers (c .before))
 
 fits : (c : tie.Else2) → length (start (c .before .before .before) .args .datagram .now) ≤ bytesHeld (c .before .before .row-at .result)
 fits c = omega (arith, c .if2 .left, c .before .bytes-held .ensures)
 
 size : (c : tie.After-image-length-at) → c .image-length-at .result ≡ imageLength (rowOf (start (c .before .before .before .before) .args .link))
-size c = c .image-length-at .ensures ∙ ap imageLength (found-row _ (c .before .before .before .before .before .place-of .ensures))
+size c = c .image-length-at .ensures ∙ ap imageLength (found-row _ (placed (c .before .before .before .before) .place-of .ensures))
 
 place-of-requires : tie.Need-place-of-requires
 place-of-requires c κs = search needs
+
+has-row-requires : tie.Need-has-row-requires
+has-row-requires c κs = search needs
 
 refuse-requires : tie.Need-refuse-requires
 refuse-requires c κs = search needs
 
 returns : tie.Need-returns
-returns c = refuses (write-unoffered _ _ (found-none _ (c .before .before .place-of .ensures) (c .before .if1 .taken))) (c .refuse .ensures)
+returns c =
+    let at = c .before .before in
+    refuses (write-unoffered _ _ (found-offered _ (at .before .place-of .ensures) (fails (at .has-row .ensures) (c .before .if1 .taken)))) (c .refuse .ensures)
 
 row-at-requires : tie.Need-row-at-requires
-row-at-requires c κs = search needs
+row-at-requires c κs = inside c
 
 bytes-held-requires : tie.Need-bytes-held-requires
 bytes-held-requires c κs = sizes (c .row-at .result) (is-good c) .check
@@ -64,7 +77,7 @@ returns-2 c =
     refuses (write-long _ _ (offers (at .before .before)) (omega (arith, c .before .if2 .taken, at .bytes-held .ensures, ap bytesHeld (row (at .before))))) (c .refuse2 .ensures)
 
 image-length-at-requires : tie.Need-image-length-at-requires
-image-length-at-requires c κs = search needs
+image-length-at-requires c κs = inside (c .before .before .before)
 
 refuse-requires-3 : tie.Need-refuse-requires-3
 refuse-requires-3 c κs = search needs
@@ -107,6 +120,7 @@ write-spec =
     tie.close
     (tie.spec
     place-of-requires
+    has-row-requires
     refuse-requires
     returns
     row-at-requires

@@ -2,12 +2,13 @@
 use mathlib.Core.Path.{sym}
 use Prim.Native.Nat.{_≤_}
 use borrow.Author.Needs.{needs}
+use Rattle.links.specs.Good.{longestBlock}
 use Rattle.links.proofs.Facts.{sizes}
 use Rattle.images.proofs.Lent.{scratch-enough, length-lent}
 use Rattle.block_writer.proofs.write_row.Statement.{statement}
 use Rattle.block_writer.proofs.write_row.Tie as tie
 
-short : (c : tie.After-block2) → c .before .before .before .before .before .args .row .k ≤ 5616
+short : (c : tie.After-block2) → c .before .before .before .before .before .args .row .k ≤ longestBlock
 short c = sizes _ (c .before .before .before .before .before .pre .0) .block
 
 cast-k : tie.Need-cast-k
@@ -20,16 +21,16 @@ block-requires-2 : tie.Need-block-requires-2
 block-requires-2 c κs = search needs
 
 array-borrow-prefix-u : tie.Need-array-borrow-prefix-u
-array-borrow-prefix-u c = scratch-enough 5616 _ (c .before .block .ensures) (short c)
+array-borrow-prefix-u c = scratch-enough longestBlock _ (c .before .block .ensures) (short c)
 
 slice-aggregate-lay-block : tie.Need-slice-aggregate-lay-block
-slice-aggregate-lay-block c = sym (length-lent 5616 _ (c .before .before .block .ensures) (short (c .before)))
+slice-aggregate-lay-block c = sym (length-lent longestBlock _ (c .before .before .block .ensures) (short (c .before)))
 
 array-borrow-prefix-v : tie.Need-array-borrow-prefix-v
-array-borrow-prefix-v c = scratch-enough 5616 _ (c .before .block2 .ensures) (short (c .before))
+array-borrow-prefix-v c = scratch-enough longestBlock _ (c .before .block2 .ensures) (short (c .before))
 
 slice-aggregate-lay-block-2 : tie.Need-slice-aggregate-lay-block-2
-slice-aggregate-lay-block-2 c = sym (length-lent 5616 _ (c .before .before .block2 .ensures) (short (c .before .before)))
+slice-aggregate-lay-block-2 c = sym (length-lent longestBlock _ (c .before .before .block2 .ensures) (short (c .before .before)))
 
 lay-block-requires : tie.Need-lay-block-requires
 lay-block-requires c κs =
@@ -37,8 +38,8 @@ lay-block-requires c κs =
     let fits = short (c .before .before .before) in (
       start .pre .0,
       start .pre .1,
-      length-lent 5616 _ (c .before .before .before .before .block .ensures) fits,
-      length-lent 5616 _ (c .before .before .before .block2 .ensures) fits,
+      length-lent longestBlock _ (c .before .before .before .before .block .ensures) fits,
+      length-lent longestBlock _ (c .before .before .before .block2 .ensures) fits,
       start .pre .2,
     )
 

@@ -6,25 +6,25 @@ use native.Mathlib.Omega.{arith}
 use lib.ListN.{length, drop}
 use borrow.Author.Needs.{needs}
 use Rattle.bits.specs.Bits.{isOne}
-use Rattle.check32.specs.Check.{registerFrom, register}
+use Rattle.check32.specs.Check.{registerFrom}
 use Rattle.check32.proofs.ByteStep.{register-byte}
 use Rattle.check32.proofs.Word.{register-more, register-done}
 use Rattle.check32.proofs.register.Statement.{statement}
 use Rattle.check32.proofs.register.Tie as tie
 
 abbrev Inv-loop : tie.InvT-loop
-Inv-loop bits residues r₀ j₀ j-end r j =
-    (j ≤ j-end) × (j-end ≡ length bits / 8) × (registerFrom r (map isOne (drop (j * 8) bits)) ≡ register (map isOne bits))
+Inv-loop from bits residues r₀ j₀ j-end r j =
+    (j ≤ j-end) × (j-end ≡ length bits / 8) × (registerFrom r (map isOne (drop (j * 8) bits)) ≡ registerFrom from (map isOne bits))
 
 abbrev μ-loop : tie.MeasureT-loop
-μ-loop bits residues r₀ j₀ j-end r j = j-end - j
+μ-loop from bits residues r₀ j₀ j-end r j = j-end - j
 
 abbrev Inv-loop2 : tie.InvT-loop2
-Inv-loop2 bits r₀ i₀ i-end r i =
-    (i ≤ i-end) × (i-end ≡ length bits) × (registerFrom r (map isOne (drop i bits)) ≡ register (map isOne bits))
+Inv-loop2 from bits r₀ i₀ i-end r i =
+    (i ≤ i-end) × (i-end ≡ length bits) × (registerFrom r (map isOne (drop i bits)) ≡ registerFrom from (map isOne bits))
 
 abbrev μ-loop2 : tie.MeasureT-loop2
-μ-loop2 bits r₀ i₀ i-end r i = i-end - i
+μ-loop2 from bits r₀ i₀ i-end r i = i-end - i
 
 residues-requires : tie.Need-residues-requires Inv-loop μ-loop Inv-loop2 μ-loop2
 residues-requires c κs = search needs

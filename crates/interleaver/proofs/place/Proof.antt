@@ -6,19 +6,19 @@ use lib.Arith.{digits-lt}
 use lib.Dec.{T}
 use borrow.Author.Needs.{needs}
 use Rattle.links.specs.declared.Row.{Row}
-use Rattle.links.specs.Good.{goodRow}
+use Rattle.links.specs.Good.{goodRow, longestBlock}
 use Rattle.links.proofs.Facts.{sizes, block-is}
 use Rattle.interleaver.proofs.place.Statement.{statement}
 use Rattle.interleaver.proofs.place.Tie as tie
 
 module _ (row : Row) (good : T (goodRow row)) (t : ℕ) (inside : t < row .k1 / 2) where
-  pairs : row .k1 / 2 * row .k2 ≤ 2808
+  pairs : row .k1 / 2 * row .k2 ≤ longestBlock
   pairs = omega (arith, block-is row good, sizes row good .block)
 
-  product : (p j : ℕ) → p < 2 ^ 32 → j < row .k2 → p * j ≤ 2 ^ 32 * 2808
+  product : (p j : ℕ) → p < 2 ^ 32 → j < row .k2 → p * j ≤ 2 ^ 32 * longestBlock
   product p j small pair = omega (arith, mul-le-mul-right j (le-of-lt small), pairs, digits-lt {q = t} {m = row .k1 / 2} {r = j} {c = row .k2} inside pair)
 
-  cell : (x : ℕ) → x % row .k2 * (row .k1 / 2) + t < 2808
+  cell : (x : ℕ) → x % row .k2 * (row .k1 / 2) + t < longestBlock
   cell x = omega (arith, pairs, mul-comm (row .k1 / 2) (row .k2), digits-lt {q = x % row .k2} {m = row .k2} {r = t} {c = row .k1 / 2} (mod-lt x (sizes row good .width)) inside)
 
 cast-half : tie.Need-cast-half

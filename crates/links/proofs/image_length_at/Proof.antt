@@ -5,15 +5,16 @@ use Prim.Native.Nat.{ℕ}
 use lib.ListN.{getD}
 use borrow.Author.Needs.{needs}
 use Rattle.links.proofs.Places.{image-length-is}
+use Rattle.links.proofs.Search.{row-count}
 use Rattle.links.proofs.Table.{image-lengths}
 use Rattle.links.proofs.image_length_at.Statement.{statement}
 use Rattle.links.proofs.image_length_at.Tie as tie
 
 mul-result : tie.Need-mul-result
-mul-result c = search needs
+mul-result c = search (needs, row-count)
 
 array-read-result : tie.Need-array-read-result
-array-read-result c = search needs
+array-read-result c = search (needs, row-count)
 
 returns : tie.Need-returns
 returns c =

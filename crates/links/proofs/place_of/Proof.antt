@@ -4,7 +4,7 @@ use mathlib.Core.List.{map}
 use Prim.Native.Nat.{_+_, _-_, _≤_}
 use native.Mathlib.Nat.{zero-add}
 use native.Mathlib.Omega.{arith}
-use lib.ListN.{drop}
+use lib.ListN.{length, drop}
 use borrow.Author.Needs.{needs}
 use Rattle.links.specs.Rows.{rows, placeIn, place}
 use Rattle.links.proofs.Places.{numbers, link-is}
@@ -13,10 +13,10 @@ use Rattle.links.proofs.place_of.Statement.{statement}
 use Rattle.links.proofs.place_of.Tie as tie
 
 abbrev Inv-loop : tie.InvT-loop
-Inv-loop link table i₀ i = (i ≤ 22) × (table ≡ map numbers rows) × (i + placeIn (drop i rows) link ≡ place link)
+Inv-loop link table i₀ i = (i ≤ length rows) × (table ≡ map numbers rows) × (i + placeIn (drop i rows) link ≡ place link)
 
 abbrev μ-loop : tie.MeasureT-loop
-μ-loop link table i₀ i = 22 - i
+μ-loop link table i₀ i = length rows - i
 
 loop-holds : tie.Need-loop-holds Inv-loop μ-loop
 unfolding rows
@@ -42,7 +42,7 @@ add-i : tie.Need-add-i Inv-loop μ-loop
 add-i c = search needs
 
 loop-less : tie.Need-loop-less Inv-loop μ-loop
-loop-less c = search needs
+loop-less c = search (needs, row-count)
 
 loop-again : tie.Need-loop-again Inv-loop μ-loop
 unfolding rows
@@ -52,7 +52,7 @@ loop-again c =
     (search needs, at .inv .1, omega (arith, at .inv .2, place-further rows link (at .i) (omega (arith, row-count)) (λ e. c .if1 .left (link-is (at .i) (omega arith) ∙ e))))
 
 returns-2 : tie.Need-returns-2 Inv-loop μ-loop
-returns-2 c = omega (arith, c .before .loop .inv .2, place-end rows (c .before .before .args .link) (c .before .loop .i) (omega (arith, row-count)))
+returns-2 c = omega (arith, row-count, c .before .loop .inv .2, place-end rows (c .before .before .args .link) (c .before .loop .i) (omega (arith, row-count)))
 
 pub place-of-spec : {M : Type 1} → statement M
 place-of-spec =

@@ -2,14 +2,15 @@
 use borrow.Author.Needs.{needs}
 use Rattle.links.specs.Rows.{rows}
 use Rattle.links.proofs.Places.{row-is}
+use Rattle.links.proofs.Search.{row-count}
 use Rattle.links.proofs.row_at.Statement.{statement}
 use Rattle.links.proofs.row_at.Tie as tie
 
 mul-row : tie.Need-mul-row
-mul-row c = search needs
+mul-row c = search (needs, row-count)
 
 array-copy-out-row : tie.Need-array-copy-out-row
-array-copy-out-row c = search needs
+array-copy-out-row c = search (needs, row-count)
 
 array-read-t32 : tie.Need-array-read-t32
 array-read-t32 c = search needs
@@ -24,10 +25,10 @@ array-read-t41 : tie.Need-array-read-t41
 array-read-t41 c = search needs
 
 mul-t26 : tie.Need-mul-t26
-mul-t26 c = search needs
+mul-t26 c = search (needs, row-count)
 
 array-copy-out-t67 : tie.Need-array-copy-out-t67
-array-copy-out-t67 c = search needs
+array-copy-out-t67 c = search (needs, row-count)
 
 array-read-t70 : tie.Need-array-read-t70
 array-read-t70 c = search needs

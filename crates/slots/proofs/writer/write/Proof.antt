@@ -8,16 +8,16 @@ use borrow.Author.Needs.{needs}
 use Rattle.answers.proofs.Task.{write-unoffered, write-long, write-short}
 use Rattle.answers.proofs.Wrote.{refuses}
 use Rattle.lists.proofs.Tests.{holds, fails}
-use Rattle.links.specs.Rows.{rowOf}
+use Rattle.links.specs.Rows.{rows, rowOf}
 use Rattle.links.specs.Sizes.{bytesHeld, imageLength}
 use Rattle.links.proofs.Facts.{sizes}
 use Rattle.links.proofs.Search.{found-row}
 use Rattle.links.proofs.FoundRow.{row-is, row-good}
 use Rattle.slots.specs.Burst.{isSlotLink, burstLength}
-use Rattle.slots.proofs.Links.{slot-has-word, slot-inside, slot-image}
+use Rattle.slots.proofs.Links.{slot-offered, slot-has-word, slot-inside, slot-image}
 use Rattle.slots.proofs.Writing.{counted, written}
-use Rattle.slots.proofs.write.Statement.{statement}
-use Rattle.slots.proofs.write.Tie as tie
+use Rattle.slots.proofs.writer.write.Statement.{statement}
+use Rattle.slots.proofs.writer.write.Tie as tie
 
 -- ---- what is known of the arguments behind each test that did not refuse
 abbrev start : tie.Else1 → tie.Start
@@ -26,11 +26,11 @@ start c = c .before .before .before .before
 slot : (c : tie.Else1) → isSlotLink (start c .args .link) ≡ true
 slot c = holds (c .before .is-slot-link .ensures) (c .if1 .left)
 
-inside : (c : tie.After-place-of) → c .place-of .result < 22
+inside : (c : tie.After-place-of) → c .place-of .result < length rows
 inside c = slot-inside _ (slot (c .before)) (c .place-of .ensures)
 
 held : (c : tie.After-bytes-held) → c .bytes-held .result ≡ bytesHeld (rowOf (start (c .before .before .before) .args .link))
-held c = c .bytes-held .ensures ∙ ap bytesHeld (row-is _ (c .before .before .place-of .ensures) (inside (c .before .before)) (c .before .row-at .ensures))
+held c = c .bytes-held .ensures ∙ ap bytesHeld (row-is _ (c .before .before .place-of .ensures) (c .before .row-at .ensures))
 
 fits : (c : tie.Else2) → length (start (c .before .before .before .before) .args .datagram .now) ≤ bytesHeld (rowOf (start (c .before .before .before .before) .args .link))
 fits c = omega (arith, held (c .before), c .if2 .left)
@@ -57,7 +57,7 @@ row-at-requires : tie.Need-row-at-requires
 row-at-requires c κs = inside c
 
 bytes-held-requires : tie.Need-bytes-held-requires
-bytes-held-requires c κs = sizes (c .row-at .result) (row-good _ (c .before .place-of .ensures) (inside (c .before)) (c .row-at .ensures)) .check
+bytes-held-requires c κs = sizes (c .row-at .result) (row-good _ (c .before .place-of .ensures) (c .row-at .ensures) (slot-offered _ (slot (c .before .before)))) .check
 
 refuse-requires-2 : tie.Need-refuse-requires-2
 refuse-requires-2 c κs = search needs
