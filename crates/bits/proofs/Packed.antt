@@ -30,13 +30,9 @@ unfolding packedOver
 packed-is at bits old new bytes long e = sym (bytesOf-bitsOf new bytes) ∙ ap₂ bytesOf long e
 
 -- ---- piece by piece
-pub length-packed : (at : ℕ) (bits : List Bool) (old : List ℕ) → length (packedOver at bits old) ≡ length old
+length-packed : (at : ℕ) (bits : List Bool) (old : List ℕ) → length (packedOver at bits old) ≡ length old
 unfolding packedOver
 length-packed at bits old = length-bytesOf (length old) (over at bits (bitsOf old))
-
-pub packed-small : (at : ℕ) (bits : List Bool) (old : List ℕ) → allBytes (packedOver at bits old) ≡ true
-unfolding packedOver
-packed-small at bits old = bytesOf-small (length old) (over at bits (bitsOf old))
 
 -- no bits laid change nothing
 pub packed-none : (at : ℕ) (bits : List Bool) (old : List ℕ) → allBytes old ≡ true → length bits ≤ 0 → old ≡ packedOver at bits old

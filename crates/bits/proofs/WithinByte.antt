@@ -66,13 +66,13 @@ module _ (held from : ℕ) (bits : List ℕ) (h : held < 256) (l : from + length
     abbrev unit : ℕ
     unit = 1 * 2 ^ behind % 2 ^ 32
 
-    abbrev fronts : ℕ
-    fronts = before * 2 ^ length bits % 2 ^ 32 + told
+    abbrev frontWord : ℕ
+    frontWord = before * 2 ^ length bits % 2 ^ 32 + told
 
-    front-is : fronts ≡ front
+    front-is : frontWord ≡ front
     front-is = omega (arith, e, front-lt, pow-mono {i = from + length bits} {j = 8} l)
 
-    pub front-fits : fronts < 2 ^ 32
+    pub front-fits : frontWord < 2 ^ 32
     front-fits = omega (arith, front-is, front-lt, pow-mono {i = from + length bits} {j = 8} l)
 
     unit-is : unit ≡ 2 ^ behind
@@ -82,7 +82,7 @@ module _ (held from : ℕ) (bits : List ℕ) (h : held < 256) (l : from + length
     unit-some = rw unit-is (pow-pos behind)
 
     abbrev whole : ℕ
-    whole = fronts * 2 ^ behind % 2 ^ 32 + held % unit
+    whole = frontWord * 2 ^ behind % 2 ^ 32 + held % unit
 
     whole-is : whole ≡ made
     whole-is =
