@@ -12,7 +12,7 @@ use Rattle.lists.proofs.Over.{over-zero}
 use Rattle.answers.specs.Outcome.{laid}
 use Rattle.bits.specs.Datagram.{allBytes, bytesOf, packedOver}
 use Rattle.bits.specs.Row.{differences}
-use Rattle.bits.proofs.Packed.{packed-bytes}
+use Rattle.datagrams.proofs.Packed.{packed-bytes}
 use Rattle.links.specs.declared.Row.{Row}
 use Rattle.links.specs.Sizes.{bytesHeld}
 use Rattle.blocks.specs.Block.{imageOf, datagramOf}

@@ -72,6 +72,6 @@ pub fn accept(
         return blocks::refuse(number);
     }
     let held = links::bytes_held(row);
-    bits::pack(u, held * 8, 0, out);
+    datagrams::pack(u, held * 8, 0, out);
     answer(held as u32, wrong as u32)
 }

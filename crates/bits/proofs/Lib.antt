@@ -5,10 +5,6 @@ pub mod Differences
 pub mod Filled
 pub mod Flip
 pub mod Ones
-pub mod Packed
-pub mod Packing
 pub mod Row
-pub mod Unpacked
-pub mod WithinByte
 pub mod Xor
 pub mod XorRows

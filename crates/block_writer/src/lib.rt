@@ -20,7 +20,7 @@ fn block_bits(row: Row, datagram: &[u8], u: &mut [u8])
     ensures { λ _. ⌜ now (u .exit) ≡ map byte (blockOf row (now (datagram .entry))) ⌝ }
 {
     let open = links::open_bits(row);
-    bits::unpack(datagram, 0, open, u);
+    datagrams::unpack(datagram, 0, open, u);
     let check = check32::register(check32::load(), &u[..open]);
     bits::lay_row(check, u, open);
 }

@@ -79,7 +79,7 @@ pub fn put_group(a: u32, b: u32, u: &[u8], v: &[u8], s: usize) -> Put
     }
 }
 
-// A place among 64 bits.
+// A place as an index.
 fn wide(place: u8) -> usize
     ensures { λ r. ⌜ (r ≡ place) × (r < 256) ⌝ }
 {

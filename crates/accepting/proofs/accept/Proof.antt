@@ -7,7 +7,7 @@ use lib.ListN.{length-map}
 use Rattle.answers.proofs.Wrote.{refuses, lays}
 use Rattle.bits.specs.Bits.{isOne}
 use Rattle.bits.specs.Row.{differences}
-use Rattle.bits.proofs.Packed.{bytes-known}
+use Rattle.datagrams.proofs.Packed.{bytes-known}
 use Rattle.links.proofs.Facts.{sizes}
 use Rattle.blocks.specs.Block.{imageOf}
 use Rattle.blocks.proofs.Blocks.{length-datagram}

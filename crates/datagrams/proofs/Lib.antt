@@ -1,0 +1,4 @@
+pub mod Packed
+pub mod Pieces
+pub mod Unpacked
+pub mod WithinByte

@@ -1,0 +1,84 @@
+-- Within one byte; or up to its end, and then from the next byte on. Assumes nothing.
+use mathlib.Core.Path.{sym}
+use Prim.Native.Nat.{_-_, _%_}
+use native.Mathlib.Omega.{arith}
+use lib.Seq.{length-take-le}
+use borrow.Author.Needs.{needs}
+use Rattle.datagrams.proofs.Pieces.{within-byte, byte-and-rest}
+use Rattle.datagrams.proofs.packing.pack.Statement.{statement}
+use Rattle.datagrams.proofs.packing.pack.Tie as tie
+
+sub-head : tie.Need-sub-head
+sub-head c = search needs
+
+slice-aggregate-pack-part : tie.Need-slice-aggregate-pack-part
+slice-aggregate-pack-part c = let start = c .before .before .before .before in sym (length-take-le (start .args .n) (start .args .row .now) (start .pre .0))
+
+pack-part-requires : tie.Need-pack-part-requires
+pack-part-requires c κs =
+    let start = c .before .before .before .before .before in
+    let long = length-take-le (start .args .n) (start .args .row .now) (start .pre .0) in
+    (omega arith, omega arith)
+
+slice-aggregate-pack-part-2 : tie.Need-slice-aggregate-pack-part-2
+slice-aggregate-pack-part-2 c = let start = c .before .before .before .before in sym (length-take-le (8 - start .args .at % 8) (start .args .row .now) (omega arith))
+
+pack-part-requires-2 : tie.Need-pack-part-requires-2
+pack-part-requires-2 c κs =
+    let start = c .before .before .before .before .before in
+    let long = length-take-le (8 - start .args .at % 8) (start .args .row .now) (omega arith) in
+    (omega arith, omega arith)
+
+sub-pack-from : tie.Need-sub-pack-from
+sub-pack-from c = search needs
+
+part-pack-from-start : tie.Need-part-pack-from-start
+part-pack-from-start c = search needs
+
+part-pack-from-end : tie.Need-part-pack-from-end
+part-pack-from-end c = search needs
+
+add-pack-from : tie.Need-add-pack-from
+add-pack-from c = search needs
+
+pack-from-requires : tie.Need-pack-from-requires
+pack-from-requires c κs = search needs
+
+same-length : tie.Need-same-length
+same-length c = search needs
+
+returns : tie.Need-returns
+returns c =
+    let start = c .before .before .before .before .before .before .before .before in
+    let a = start .args in
+    within-byte (a .at) (a .n) (a .row .now) (a .out .now) (start .pre .0) (c .before .before .pack-part .ensures)
+
+same-length-2 : tie.Need-same-length-2
+same-length-2 c = search needs
+
+returns-2 : tie.Need-returns-2
+returns-2 c =
+    let start = c .before .before .before .before .before .before .before .before .before .before .before .before .before in
+    let a = start .args in
+    byte-and-rest (a .at) (a .n) (a .row .now) (a .out .now) (start .pre .0) _ _ (omega (arith, c .before .before .before .before .before .before .before .before .before .before .if1 .left)) (start .pre .1)
+    (c .before .before .before .before .before .before .before .pack-part2 .ensures)
+    (c .before .before .pack-from .ensures)
+
+pub pack-spec : {M : Type 1} → statement M
+pack-spec =
+    tie.close
+    (tie.spec
+    sub-head
+    slice-aggregate-pack-part
+    pack-part-requires
+    slice-aggregate-pack-part-2
+    pack-part-requires-2
+    sub-pack-from
+    part-pack-from-start
+    part-pack-from-end
+    add-pack-from
+    pack-from-requires
+    same-length
+    returns
+    same-length-2
+    returns-2)
