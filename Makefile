@@ -3,9 +3,10 @@
 # make install: header, archive and pkg-config file below PREFIX; DESTDIR stands before it where a package is staged.
 # make check-install: installs both ways below build/ and compiles the README's example against each tree.
 # make test: the gate, as .ci/run runs it.
+# make refusals: the first error of each must-fail edit, from the logs of the last gate.
 # make soak: not in the gate. CALLS calls of each kind, random, damaged and lying, the archive against the second implementation.
 # make bench: nanoseconds per block and ratios to a plain writer in C, measured in one run.
-.PHONY: run tool install check-install test soak bench
+.PHONY: run tool install check-install test refusals soak bench
 
 CC ?= gcc
 CFLAGS = -std=c11 -O2 -Wall -Wextra -Wpedantic -Werror
@@ -49,6 +50,9 @@ build:
 
 test:
 	bash .ci/run
+
+refusals:
+	bash .ci/refusals
 
 CALLS ?= 1000000
 SEED ?= 1
