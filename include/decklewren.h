@@ -44,7 +44,10 @@ enum {
     DECKLEWREN_BROKEN_FILL = 10    /* fill holds another byte */
 };
 
-/* The links that are offered (document 01, "The links"): X(link, bytes of a datagram that it holds, N bits of its image). */
+/* The links that are offered (document 01, "The links"): X(link, bytes of a datagram that it holds, N bits of its image). Two things
+   differ from M.2092-1, because document 01 says so and outranks it: link 20 has 32 check bits in the place of 16, and images have
+   none of the Recommendation's fill bits, which makes N smaller on links 12 (by 3), 13 (8), 14 (30), 15 (51), 16 (72), 18 (243),
+   19 (8), 22 (4) and 23 (3). */
 #define DECKLEWREN_LINKS(X) \
     X(5, 32, 394)           \
     X(6, 80, 906)           \

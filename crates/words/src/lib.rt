@@ -96,10 +96,12 @@ fn first_near(received: u32) -> Word
 pub fn read(row: &[u8]) -> Word
     ensures { λ r. ⌜ r ≡ readWord (now (row .entry)) ⌝ }
 {
-    if row.len() != 32 {
+    let other_length = row.len() != 32;
+    let all = bits::all_bits(row);
+    if other_length {
         return refuse(2);
     }
-    if !bits::all_bits(row) {
+    if !all {
         return refuse(4);
     }
     first_near(bits::number_of(row))
