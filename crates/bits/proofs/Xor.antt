@@ -81,6 +81,13 @@ pub ⊕-middle : (a b c d : ℕ) → (a ⊕ b) ⊕ (c ⊕ d) ≡ (a ⊕ c) ⊕ (
 pub ⊕-equal : (a b : ℕ) → a ⊕ b ≡ 0 → a ≡ b
 ⊕-equal a b e = sym (⊕-zero a) ∙ ap (λ (x : ℕ). a ⊕ x) (sym (⊕-self b)) ∙ sym (⊕-assoc a b b) ∙ ap (λ (x : ℕ). x ⊕ b) e ∙ zero-⊕ b
 
+-- a term added twice falls away, so one that two equal sums share may be left out
+⊕-twice : (a b : ℕ) → a ⊕ (a ⊕ b) ≡ b
+⊕-twice a b = sym (⊕-assoc a a b) ∙ ap (λ (x : ℕ). x ⊕ b) (⊕-self a) ∙ zero-⊕ b
+
+pub ⊕-cancel : (a b c : ℕ) → a ⊕ b ≡ a ⊕ c → b ≡ c
+⊕-cancel a b c e = sym (⊕-twice a b) ∙ ap (λ (x : ℕ). a ⊕ x) e ∙ ⊕-twice a c
+
 -- two bits
 pub ⊕-bits : (x y : Bool) → byte x ⊕ byte y ≡ byte (xor x y)
 unfolding _⊕_ xor

@@ -31,7 +31,7 @@ use Rattle.blocks.specs.Coding.{codingOf}
 use Rattle.blocks.specs.Near.{Valid, Near}
 use Rattle.blocks.specs.Calls.{blockTask, readBlock, refused as refusal, reading}
 use Rattle.blocks.proofs.Answered.{near-answered, near-itself, near-flipped}
-use Rattle.blocks.proofs.Blocks.{length-datagram, long-image, block-valid, datagram-in-block}
+use Rattle.blocks.proofs.Blocks.{length-datagram, datagram-bytes, long-image, block-valid, datagram-in-block, valid-block}
 use Rattle.blocks.proofs.WaysOfReading as r
 use Rattle.claims.specs.Calls.{WroteBlock, ReadBlock, BlockAnswer}
 use Rattle.claims.proofs.Tasks.{Met, met, done-met}
@@ -158,6 +158,15 @@ module _ (link : ℕ) (datagram old new : List ℕ) (answer : Written) (bytes : 
       (near-flipped (rowOf link) row-good u right place (omega (arith, i .long, length-map (imageOf (rowOf link) u) byte, image-long)))
       (differences-flip place (imageOf (rowOf link) u) (omega (arith, i .long, length-map (imageOf (rowOf link) u) byte)))
       (rw (i .bits, bits-bytes (imageOf (rowOf link) u)) at wr)
+
+-- ---- the valid blocks are those that can be written
+pub valid-written : (link : ℕ) → offered link ≡ true → (u : List Bool)
+    → Valid (rowOf link) u ↔ ((datagram : List ℕ) × (allBytes datagram ≡ true) × (length datagram ≤ bytesHeld (rowOf link)) × (u ≡ blockOf (rowOf link) datagram))
+valid-written link o u =
+    let row = rowOf link in (
+      λ v. (datagramOf row u, datagram-bytes row u, omega (arith, length-datagram row u), valid-block row (good link o) u v),
+      λ some. rw (some .3) (block-valid row (good link o) (some .0) (some .2)),
+    )
 
 -- ---- link 12's bits over
 zero-at : (row : List Bool) (i : ℕ) → allZero row ≡ true → getD row i false ≡ false

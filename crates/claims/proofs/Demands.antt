@@ -95,6 +95,7 @@ demand3 = record {
   images-apart = λ link o. exact.images-apart (rowOf link) (good link o);
   block-exact = blocks.exact;
   block-none = blocks.none-near;
+  valid-written = blocks.valid-written;
   block-only-one = λ link o. exact.only-one (rowOf link) (good link o);
   block-answered = blocks.answered;
   over-12 = blocks.over-12;

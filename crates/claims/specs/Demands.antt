@@ -151,6 +151,10 @@ pub record Demand3 : Type 0 where
   pub block-none : (link : ℕ) → offered link ≡ true → (came : List Bool) → length came ≡ imageLength (rowOf link) → (old new : List ℕ) (answer : Block)
       → bytesHeld (rowOf link) ≤ length old → ReadBlock link (map byte came) old new answer
       → (answer .status ≡ noBlock) ↔ ((u : List Bool) → NearBlock (rowOf link) came u → ⊥)
+  -- "some valid block" is "some block that can be written": a row of bits is valid if and only if it is the block of a datagram, one made
+  -- of bytes that is no longer than the link holds
+  pub valid-written : (link : ℕ) → offered link ≡ true → (u : List Bool)
+      → Valid (rowOf link) u ↔ ((datagram : List ℕ) × (allBytes datagram ≡ true) × (length datagram ≤ bytesHeld (rowOf link)) × (u ≡ blockOf (rowOf link) datagram))
   -- "Only one such block then exists,"
   pub block-only-one : (link : ℕ) → offered link ≡ true → (came u w : List Bool) → NearBlock (rowOf link) came u → NearBlock (rowOf link) came w → u ≡ w
   -- "and its datagram is the answer, with the true number of wrong bits."

@@ -1,7 +1,7 @@
 -- What a test of every element says of the element at a place, of a part of the list, and of what a loop that scans has left to test;
 -- and of lists put together.
 -- Assumes nothing.
-use mathlib.Core.Path.{_≡_, refl, _∙_}
+use mathlib.Core.Path.{_≡_, refl, ap₂, _∙_}
 use mathlib.Core.Bool.{Bool, true, false, _&&_, true≢false}
 use mathlib.Core.List.{List, [], _∷_, _++_}
 use Prim.Native.Nat.{ℕ, zero, suc, _+_, _<_, _≤_, zero-le, suc-le-suc}
@@ -86,6 +86,12 @@ module _ {A : Type 0} (test : A → Bool) where
   unfolding every
   every-replicate zero x e = refl
   every-replicate (suc n) x e = rw e (every-replicate n x e)
+
+  -- where only one element passes, a list that passes is made of it
+  pub every-only : (a : A) → ((x : A) → test x ≡ true → x ≡ a) → (xs : List A) → every test xs ≡ true → xs ≡ replicate (length xs) a
+  unfolding every
+  every-only a only [] e = refl
+  every-only a only (x ∷ xs) e = let h = both-true (test x) (every test xs) e in ap₂ _∷_ (only x (h .0)) (every-only a only xs (h .1))
 
   pub every-append : (xs ys : List A) → every test xs ≡ true → every test ys ≡ true → every test (xs ++ ys) ≡ true
   unfolding every
