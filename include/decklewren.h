@@ -12,9 +12,10 @@
    or a position, and any bytes in the buffers.
 
    WHAT IS PROVED, of the Rattle sources of these calls, for all input: a call returns, touches nothing but the buffers that it
-   is lent, and answers and writes what its contract says. The contracts leave one answer and one content of the buffers,
-   whatever these held before. "Proved" at a call below names fields of the records in crates/claims/specs/Demands.antt;
-   docs/PROMISES.md goes through them sentence by sentence.
+   is lent, and answers and writes what its contract says. The contracts leave one answer and one content of the buffers: what
+   these held before reaches neither the answer nor the bytes that it counts, and the bytes behind those stay as they were.
+   "Proved" at a call below names fields of the records in crates/claims/specs/Demands.antt; docs/PROMISES.md goes through them
+   sentence by sentence.
 
    WHAT IS NOT PROVED: this header, the compiler's back end and the C side. They are tested: host/header_test.c holds every name
    and size below to the archive, and the cross-check holds every call to a second implementation. */

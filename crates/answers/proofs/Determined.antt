@@ -1,4 +1,5 @@
--- The relation `Wrote` leaves one answer and one content of the lent buffer, whatever stood there before.
+-- The relation `Wrote` leaves one answer and one content of the lent buffer: what stood there before reaches neither the answer nor the bytes
+-- that are laid, and the bytes behind those stay.
 -- Assumes nothing.
 use mathlib.Core.Path.{_≡_, sym, ap, _∙_}
 use mathlib.Core.List.{List}
@@ -34,3 +35,8 @@ module _ {Answer : Type 0} (count : Answer → ℕ) (outcome : Outcome Answer) (
   determined {new' = new'} w w' =
       let same = w .answers ∙ sym (w' .answers) in
       (same, front w ∙ sym (front w') ∙ ap (λ (a : Answer). take (count a) new') (sym same))
+
+-- buffers that held the same before hold the same afterwards
+pub one-content : {Answer : Type 0} {outcome : Outcome Answer} {old new new' : List ℕ} {answer answer' : Answer} → Wrote outcome old new answer → Wrote outcome old new' answer'
+    → new ≡ new'
+one-content w w' = w .leaves ∙ sym (w' .leaves)

@@ -3,6 +3,7 @@
 use mathlib.Core.Path.{refl, sym, _∙_}
 use native.Mathlib.Omega.{arith}
 use lib.ListN.{length}
+use Rattle.answers.proofs.Determined.{one-content}
 use Rattle.answers.proofs.Task as t
 use Rattle.links.specs.Rows.{rows, rowOf}
 use Rattle.links.proofs.Good.{good}
@@ -56,6 +57,11 @@ demand1 = record {
   write-slot-determined = λ link datagram old old' new new' answer answer' l wr wr'. determined (task-ends (slotTask link datagram) (length old)) wr (rw (← l) at wr');
   read-slot-determined = λ burst old old' new new' answer answer' l wr wr'. determined (slots.ends burst (length old)) wr (rw (← l) at wr');
   step-determined = λ datagram position answer answer' e f. e ∙ sym f;
+  write-word-content = λ n old new new' answer answer' wr wr'. one-content wr wr';
+  write-block-content = λ link datagram old new new' answer answer' wr wr'. one-content wr wr';
+  read-block-content = λ link bits old new new' answer answer' wr wr'. one-content wr wr';
+  write-slot-content = λ link datagram old new new' answer answer' wr wr'. one-content wr wr';
+  read-slot-content = λ burst old new new' answer answer' wr wr'. one-content wr wr';
 }
 
 pub demand2 : Demand2

@@ -74,6 +74,14 @@ pub record Demand1 : Type 1 where
   pub read-slot-determined : (burst old old' new new' : List ℕ) (answer answer' : Slot) → length old ≡ length old'
       → ReadSlot burst old new answer → ReadSlot burst old' new' answer' → (answer ≡ answer') × (take (answer .count) new ≡ take (answer .count) new')
   pub step-determined : (datagram : List ℕ) (position : ℕ) (answer answer' : Step) → Stepped datagram position answer → Stepped datagram position answer' → answer ≡ answer'
+  -- and one content of the lent buffer is possible: with equal requests, buffers that held the same before the call hold the same after it
+  pub write-word-content : (n : ℕ) (old new new' : List ℕ) (answer answer' : Written) → WroteWord n old new answer → WroteWord n old new' answer' → new ≡ new'
+  pub write-block-content : (link : ℕ) (datagram old new new' : List ℕ) (answer answer' : Written)
+      → WroteBlock link datagram old new answer → WroteBlock link datagram old new' answer' → new ≡ new'
+  pub read-block-content : (link : ℕ) (bits old new new' : List ℕ) (answer answer' : Block) → ReadBlock link bits old new answer → ReadBlock link bits old new' answer' → new ≡ new'
+  pub write-slot-content : (link : ℕ) (datagram old new new' : List ℕ) (answer answer' : Written)
+      → WroteSlot link datagram old new answer → WroteSlot link datagram old new' answer' → new ≡ new'
+  pub read-slot-content : (burst old new new' : List ℕ) (answer answer' : Slot) → ReadSlot burst old new answer → ReadSlot burst old new' answer' → new ≡ new'
 
 pub record Demand2 : Type 0 where
   -- "Link words, blocks and slot bursts are those of ITU-R M.2092-1, for the twenty-two links that document 01 lists": they are what
