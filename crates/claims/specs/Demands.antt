@@ -16,7 +16,7 @@ use Rattle.turbo.specs.Interleaver.{position, InBlock}
 use Rattle.words.specs.declared.Word.{Word}
 use Rattle.words.specs.Word.{wordBits}
 use Rattle.words.specs.Near.{Near as NearWord}
-use Rattle.words.specs.Calls.{readWord, found, refused as wordRefused}
+use Rattle.words.specs.Calls.{found, refused as wordRefused}
 use Rattle.blocks.specs.declared.Block.{Block}
 use Rattle.blocks.specs.Block.{blockOf, imageOf, datagramOf, zeroFilled}
 use Rattle.blocks.specs.Near.{Valid, Near as NearBlock}
@@ -25,7 +25,7 @@ use Rattle.slots.specs.Burst.{trainingPart, wordPart, blockPart, isSlotLink, bu
 use Rattle.slots.specs.Near.{Near as NearBurst}
 use Rattle.messages.specs.declared.Step.{Step}
 use Rattle.messages.specs.Places.{byteAt, Fill, FillFrom, Whole}
-use Rattle.messages.specs.Step.{finished, message, refused as stepRefused, stepMessage}
+use Rattle.messages.specs.Step.{finished, message, refused as stepRefused}
 use Rattle.messages.specs.Tiling.{Tiles, Tiled, bytesOf}
 use Rattle.messages.specs.Walk.{Walks, walk}
 use Rattle.claims.specs.Lines.{Lines, Given}
@@ -100,7 +100,8 @@ pub record Demand2 : Type 0 where
   pub interleaver-once : (link : ℕ) → offered link ≡ true → (s r : ℕ) → InBlock (rowOf link) s → InBlock (rowOf link) r → position (rowOf link) s ≡ position (rowOf link) r → s ≡ r
   pub interleaver-onto : (link : ℕ) → offered link ≡ true → (r : ℕ) → InBlock (rowOf link) r → (s : ℕ) × InBlock (rowOf link) s × (position (rowOf link) s ≡ r)
   -- "What we write we read back: the datagram, zero-filled to its link's size."
-  pub words-back : (n : ℕ) (old new : List ℕ) (answer : Written) → WroteWord n old new answer → answer .status ≡ done → readWord (take (answer .count) new) ≡ found n 0
+  pub words-back : (n : ℕ) (old new : List ℕ) (written : Written) → WroteWord n old new written → written .status ≡ done
+      → (answer : Word) → ReadWord (take (written .count) new) answer → answer ≡ found n 0
   pub blocks-back : (link : ℕ) (datagram old new : List ℕ) (written : Written) → allBytes datagram ≡ true → WroteBlock link datagram old new written → written .status ≡ done
       → (old' new' : List ℕ) (answer : Block) → bytesHeld (rowOf link) ≤ length old' → ReadBlock link (take (written .count) new) old' new' answer
       → BlockAnswer (zeroFilled (rowOf link) datagram) 0 old' new' answer
@@ -113,13 +114,14 @@ pub record Demand2 : Type 0 where
   -- "Messages are divided as document 01 says." Whatever a step answers lies inside the datagram
   pub step-inside : (datagram : List ℕ) (position : ℕ) (answer : Step) → Stepped datagram position answer → answer .start + answer .length ≤ length datagram
   -- a message is answered exactly where one begins that is as long as it declares, at least 7, and ends inside the datagram
-  pub message-found : (datagram : List ℕ) (position start total : ℕ)
-      → ((stepMessage datagram position ≡ message start total) × (0 < total)) ↔ ((start ≡ position) × Whole datagram position total)
+  pub message-found : (datagram : List ℕ) (position : ℕ) (answer : Step) → Stepped datagram position answer → (start total : ℕ)
+      → ((answer ≡ message start total) × (0 < total)) ↔ ((start ≡ position) × Whole datagram position total)
   -- "finished": at the end, or where all bytes from the position on are 0 or 81
-  pub step-finished : (datagram : List ℕ) (position : ℕ) → (stepMessage datagram position ≡ finished) ↔ ((position ≤ length datagram) × FillFrom datagram position)
+  pub step-finished : (datagram : List ℕ) (position : ℕ) (answer : Step) → Stepped datagram position answer
+      → (answer ≡ finished) ↔ ((position ≤ length datagram) × FillFrom datagram position)
   -- the lie of last spring: any burst of one slot whose message declares 900 bytes
   pub lie-refused : (datagram : List ℕ) → length datagram ≡ bytesHeld (rowOf 5) → (Fill (byteAt datagram 0) → ⊥) → byteAt datagram 1 * 256 + byteAt datagram 2 ≡ 900
-      → stepMessage datagram 0 ≡ stepRefused brokenMessage
+      → (answer : Step) → Stepped datagram 0 answer → answer ≡ stepRefused brokenMessage
   -- stepping from 0, each next step at start + length, ends, and with one outcome
   pub walk-ends : (datagram : List ℕ) → Walks datagram 0 (walk datagram .found) (walk datagram .last)
   pub walk-determined : (datagram : List ℕ) (found found' : List Step) (last last' : Step) → Walks datagram 0 found last → Walks datagram 0 found' last'
@@ -139,7 +141,8 @@ pub record Demand3 : Type 0 where
       → ReadBlock link (map byte (flip place (map isOne (take (written .count) new)))) old' new' answer
       → BlockAnswer (zeroFilled (rowOf link) datagram) 1 old' new' answer
   -- with up to seven places of the word wrong
-  pub word-mended : (n : ℕ) → n < 64 → (row : List Bool) → length row ≡ 32 → differences (wordBits n) row ≤ 7 → readWord (map byte row) ≡ found n (differences (wordBits n) row)
+  pub word-mended : (n : ℕ) → n < 64 → (row : List Bool) → length row ≡ 32 → differences (wordBits n) row ≤ 7
+      → (answer : Word) → ReadWord (map byte row) answer → answer ≡ found n (differences (wordBits n) row)
   -- and a burst with both
   pub slot-mended : (link : ℕ) (datagram old new : List ℕ) (written : Written) → allBytes datagram ≡ true → WroteSlot link datagram old new written → written .status ≡ done
       → (came : List Bool) → length came ≡ written .count → trainingPart came ≡ trainingPart (burstOf link datagram)
@@ -172,8 +175,9 @@ pub record Demand3 : Type 0 where
   -- link 12: a one among the four bits over is never valid, even under a right check
   pub over-12 : (u : List Bool) → Valid (rowOf 12) u → (i : ℕ) → i < 4 → getD u (936 + i) false ≡ false
   -- "A 32-bit link word is answered exactly when one of the 64 code words is within seven places; that one is the answer."
-  pub word-exact : (row : List Bool) → length row ≡ 32 → (n wrong : ℕ) → (readWord (map byte row) ≡ found n wrong) ↔ NearWord row n wrong
-  pub word-none : (row : List Bool) → length row ≡ 32 → (readWord (map byte row) ≡ wordRefused noWord) ↔ ((n : ℕ) → n < 64 → 7 < differences (wordBits n) row)
+  pub word-exact : (row : List Bool) → length row ≡ 32 → (answer : Word) → ReadWord (map byte row) answer → (n wrong : ℕ) → (answer ≡ found n wrong) ↔ NearWord row n wrong
+  pub word-none : (row : List Bool) → length row ≡ 32 → (answer : Word) → ReadWord (map byte row) answer
+      → (answer ≡ wordRefused noWord) ↔ ((n : ℕ) → n < 64 → 7 < differences (wordBits n) row)
   pub word-only-one : (row : List Bool) (m n a b : ℕ) → NearWord row m a → NearWord row n b → m ≡ n
   -- and so of slot bursts: answered exactly when the training is right, the word of a slot link is within seven places of the word, a
   -- valid block's image of that link is within one place of the rest, and the buffer is large enough
