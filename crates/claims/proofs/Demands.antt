@@ -1,13 +1,19 @@
 -- The three demands are met.
 -- Assumes nothing.
-use mathlib.Core.Path.{refl, sym, _∙_}
+use mathlib.Core.Path.{refl, sym, ap, _∙_}
+use mathlib.Core.Bool.{Bool}
+use mathlib.Core.List.{List, _∷_}
 use native.Mathlib.Omega.{arith}
 use lib.ListN.{length}
 use Rattle.answers.proofs.Determined.{one-content}
 use Rattle.answers.proofs.Task as t
 use Rattle.links.specs.Rows.{rows, rowOf}
+use Rattle.links.proofs.Facts.{sizes}
 use Rattle.links.proofs.Good.{good}
+use Rattle.links.proofs.GoodFlags.{pattern, clock-at}
+use Rattle.links.proofs.Table.{image-lengths}
 use Rattle.turbo.proofs.Permutation.{position-in-range, position-injective, position-onto}
+use Rattle.turbo.proofs.Weave.{clock-passes, parity-alone}
 use Rattle.words.proofs.Apart.{apart}
 use Rattle.words.proofs.Exact.{near-found, found-near, refused-far, far-refused}
 use Rattle.words.proofs.Ways as w
@@ -74,6 +80,12 @@ demand2 = record {
   interleaver-within = λ link o. position-in-range (rowOf link) (good link o);
   interleaver-once = λ link o. position-injective (rowOf link) (good link o);
   interleaver-onto = λ link o. position-onto (rowOf link) (good link o);
+  block-product = λ link o. sizes (rowOf link) (good link o) .product;
+  image-lengths = image-lengths;
+  x-once = λ link o s. let clock = clock-at _ (pattern (rowOf link) (good link o)) s in (clock .x, clock .x');
+  x-passes = λ link o s a b x y.
+      let clock = clock-at _ (pattern (rowOf link) (good link o)) s in
+      clock-passes _ clock a b x y ∙ ap (λ (passed : List Bool). x ∷ passed) (parity-alone _ clock a b x y);
   words-back = λ n old new written wr z answer e. e ∙ words.back n old new written wr z;
   blocks-back = blocks.back;
   slots-back = slots.back;

@@ -10,8 +10,11 @@ use Rattle.answers.specs.Numbers.{done, noWord, noBlock, brokenMessage}
 use Rattle.bits.specs.Bits.{isOne, byte}
 use Rattle.bits.specs.Datagram.{allBytes}
 use Rattle.bits.specs.Row.{differences, flip}
+use Rattle.links.specs.Patterns.{patternOf, flagsAt}
 use Rattle.links.specs.Rows.{rows, offered, rowOf}
 use Rattle.links.specs.Sizes.{bytesHeld, imageLength}
+use Rattle.turbo.specs.Coded.{six, passed}
+use Rattle.turbo.specs.Encoder.{Register, y0, y1}
 use Rattle.turbo.specs.Interleaver.{position, InBlock}
 use Rattle.words.specs.declared.Word.{Word}
 use Rattle.words.specs.Word.{wordBits}
@@ -99,6 +102,16 @@ pub record Demand2 : Type 0 where
   pub interleaver-within : (link : ℕ) → offered link ≡ true → (s : ℕ) → InBlock (rowOf link) (position (rowOf link) s)
   pub interleaver-once : (link : ℕ) → offered link ≡ true → (s r : ℕ) → InBlock (rowOf link) s → InBlock (rowOf link) r → position (rowOf link) s ≡ position (rowOf link) r → s ≡ r
   pub interleaver-onto : (link : ℕ) → offered link ≡ true → (r : ℕ) → InBlock (rowOf link) r → (s : ℕ) × InBlock (rowOf link) s × (position (rowOf link) s ≡ r)
+  -- and k is k1 times k2
+  pub block-product : (link : ℕ) → offered link ≡ true → rowOf link .k1 * rowOf link .k2 ≡ rowOf link .k
+  -- N of each link, in the order of `links`
+  pub image-lengths : map imageLength rows ≡ 394 ∷ 906 ∷ 1418 ∷ 396 ∷ 908 ∷ 1420 ∷ 874 ∷ 1308 ∷ 1740 ∷ 1804 ∷ 2700 ∷ 3596 ∷ 3754 ∷ 5388 ∷ 7500 ∷ 402 ∷ 1112 ∷ 4692 ∷ 6828 ∷ 9562 ∷ 1269 ∷ 12855 ∷ []
+  -- of the six flags of a clock, for X Y0 Y1 X' Y'0 Y'1, that of X is 1 and that of X' is 0, at every clock of every link
+  pub x-once : (link : ℕ) → offered link ≡ true → (s : ℕ) → let flags = flagsAt (patternOf (rowOf link .pattern)) s in (getD flags 0 0 ≡ 1) × (getD flags 3 0 ≡ 0)
+  -- so a clock with registers a and b and inputs x and y passes on x once, then what the flags of Y0 and Y1 and those of Y'0 and Y'1 let
+  -- pass of the parity bits, and y never
+  pub x-passes : (link : ℕ) → offered link ≡ true → (s : ℕ) (a b : Register) (x y : Bool) → let flags = flagsAt (patternOf (rowOf link .pattern)) s in
+      passed flags (six a b x y) ≡ x ∷ passed (take 2 (drop 1 flags)) (y0 a x ∷ y1 a x ∷ []) ++ passed (drop 4 flags) (y0 b y ∷ y1 b y ∷ [])
   -- "What we write we read back: the datagram, zero-filled to its link's size."
   pub words-back : (n : ℕ) (old new : List ℕ) (written : Written) → WroteWord n old new written → written .status ≡ done
       → (answer : Word) → ReadWord (take (written .count) new) answer → answer ≡ found n 0
