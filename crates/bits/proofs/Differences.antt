@@ -1,11 +1,11 @@
 -- The number of places where two rows differ is a distance.
 -- Assumes nothing.
 use mathlib.Core.Path.{_≡_, refl, ap, ap₂}
-use mathlib.Core.Bool.{Bool, true, false}
+use mathlib.Core.Bool.{Bool, true, false, true≢false, false≢true}
 use mathlib.Core.List.{List, [], _∷_}
-use Prim.Native.Nat.{ℕ, zero, suc, _+_, _≤_, zero-le}
+use Prim.Native.Nat.{ℕ, zero, suc, _+_, _≤_, _<_, zero-le}
 use native.Mathlib.Omega.{arith}
-use lib.ListN.{length, drop, length-drop}
+use lib.ListN.{length, getD, drop, length-drop}
 use Rattle.bits.specs.Row.{differ, differences}
 
 pub differences-self : (xs : List Bool) → differences xs xs ≡ 0
@@ -62,6 +62,25 @@ differences-triangle (x ∷ xs) [] [] = omega arith
 differences-triangle (x ∷ xs) [] (z ∷ zs) = differences-le (x ∷ xs) (z ∷ zs)
 differences-triangle (x ∷ xs) (y ∷ ys) [] = omega (arith, length-differences (y ∷ ys) (x ∷ xs), differences-comm (x ∷ xs) (y ∷ ys))
 differences-triangle (x ∷ xs) (y ∷ ys) (z ∷ zs) = omega (arith, differences-triangle xs ys zs, differ-triangle x y z)
+
+-- a row that differs from two others only where they differ lies between them
+differ-between : (x y z : Bool) → (x ≡ z → y ≡ x) → differ x z ≡ differ x y + differ y z
+differ-between true true z h = omega arith
+differ-between true false true h = absurd (false≢true (h refl))
+differ-between true false false h = refl
+differ-between false true true h = refl
+differ-between false true false h = absurd (true≢false (h refl))
+differ-between false false z h = omega arith
+
+pub differences-between : (xs ys zs : List Bool) → length xs ≡ length ys → length ys ≡ length zs
+    → ((i : ℕ) → i < length xs → getD xs i false ≡ getD zs i false → getD ys i false ≡ getD xs i false) → differences xs zs ≡ differences xs ys + differences ys zs
+unfolding differences
+differences-between [] [] zs l m h = omega arith
+differences-between [] (y ∷ ys) zs l m h = absurd (omega arith)
+differences-between (x ∷ xs) [] zs l m h = absurd (omega arith)
+differences-between (x ∷ xs) (y ∷ ys) [] l m h = absurd (omega arith)
+differences-between (x ∷ xs) (y ∷ ys) (z ∷ zs) l m h =
+    omega (arith, differ-between x y z (h 0 (omega arith)), differences-between xs ys zs (omega arith) (omega arith) (λ i k. h (suc i) (omega arith)))
 
 -- no place differs only where the rows are equal
 pub differences-zero : (xs ys : List Bool) → differences xs ys ≡ 0 → xs ≡ ys

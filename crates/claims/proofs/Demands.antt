@@ -119,6 +119,7 @@ demand3 = record {
   over-12 = blocks.over-12;
   word-exact = λ row size answer e n wrong. rw e (found-near row size n wrong, near-found row size n wrong);
   word-none = λ row size answer e. rw e (refused-far row size, far-refused row size);
+  word-nine = λ row size agrees nine answer e. e ∙ words.nine row size agrees nine;
   word-only-one = words.only-one;
   slot-exact = slots.exact;
   slot-only-one = slots.only-one;

@@ -1,18 +1,20 @@
 -- What is shown of link words, from the laws of the crate `words`.
 -- Assumes nothing.
-use mathlib.Core.Path.{_≡_, refl, ap, _∙_}
-use mathlib.Core.Bool.{Bool}
+use mathlib.Core.Path.{_≡_, refl, sym, ap, _∙_}
+use mathlib.Core.Bool.{Bool, false}
 use mathlib.Core.List.{List, map}
 use Prim.Native.Nat.{ℕ, _<_, _≤_}
 use native.Mathlib.Omega.{arith}
-use lib.ListN.{length, take}
+use lib.ListN.{length, getD, take}
 use Rattle.answers.specs.declared.Written.{Written}
 use Rattle.answers.specs.Numbers.{done}
 use Rattle.answers.proofs.Wrote.{told}
 use Rattle.bits.specs.Bits.{byte}
-use Rattle.bits.specs.Row.{differences}
+use Rattle.bits.specs.Row.{highFirst, differences}
+use Rattle.bits.proofs.Differences.{differences-comm, differences-between}
+use Rattle.bits.proofs.Row.{length-highFirst}
 use Rattle.words.specs.declared.Word.{Word}
-use Rattle.words.specs.Word.{wordBits}
+use Rattle.words.specs.Word.{generator, withRows, wordOf, wordBits}
 use Rattle.words.specs.Near.{Near}
 use Rattle.words.specs.Calls.{readWord, found}
 use Rattle.words.proofs.Apart as apart
@@ -56,3 +58,15 @@ mended n h row size within = near-found row size n (differences (wordBits n) row
 
 pub only-one : (row : List Bool) (m n a b : ℕ) → Near row m a → Near row n b → m ≡ n
 only-one row m n a b p q = apart.only-one row m n (p .known) (q .known) (omega (arith, p .count, p .within)) (omega (arith, q .count, q .within))
+
+-- the words of 0 and 1 differ in 16 places, so a row between them that is nine from the one is seven from the other
+pub nine : (row : List Bool) → length row ≡ 32 → ((i : ℕ) → i < 32 → getD (wordBits 0) i false ≡ getD (wordBits 1) i false → getD row i false ≡ getD (wordBits 0) i false)
+    → differences (wordBits 0) row ≡ 9 → readWord (map byte row) ≡ found 1 7
+nine row size agrees e =
+    let long = length-highFirst 32 (wordOf 0) in
+    let between = differences-between (wordBits 0) row (wordBits 1) (long ∙ sym size) (size ∙ sym (length-highFirst 32 (wordOf 1))) (λ i h. agrees i (omega (arith, long))) in
+    let seven : differences (wordBits 1) row ≡ 7 = omega (arith, between, sixteen, differences-comm (wordBits 1) row) in
+    near-found row size 1 7 (record { known = omega arith; count = seven; within = omega arith })
+  where
+    sixteen : differences (wordBits 0) (wordBits 1) ≡ 16
+    sixteen = unfold highFirst generator withRows wordOf differences in refl

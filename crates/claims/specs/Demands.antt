@@ -191,6 +191,10 @@ pub record Demand3 : Type 0 where
   pub word-exact : (row : List Bool) → length row ≡ 32 → (answer : Word) → ReadWord (map byte row) answer → (n wrong : ℕ) → (answer ≡ found n wrong) ↔ NearWord row n wrong
   pub word-none : (row : List Bool) → length row ≡ 32 → (answer : Word) → ReadWord (map byte row) answer
       → (answer ≡ wordRefused noWord) ↔ ((n : ℕ) → n < 64 → 7 < differences (wordBits n) row)
+  -- the word of 0 with nine of the places inverted where the words of 0 and 1 differ, whichever nine: where these two words agree the row
+  -- has their bit, and in nine places it has not the bit of the word of 0. The answer is 1, with 7 wrong
+  pub word-nine : (row : List Bool) → length row ≡ 32 → ((i : ℕ) → i < 32 → getD (wordBits 0) i false ≡ getD (wordBits 1) i false → getD row i false ≡ getD (wordBits 0) i false)
+      → differences (wordBits 0) row ≡ 9 → (answer : Word) → ReadWord (map byte row) answer → answer ≡ found 1 7
   pub word-only-one : (row : List Bool) (m n a b : ℕ) → NearWord row m a → NearWord row n b → m ≡ n
   -- and so of slot bursts: answered exactly when the training is right, the word of a slot link is within seven places of the word, a
   -- valid block's image of that link is within one place of the rest, and the buffer is large enough
