@@ -1,8 +1,9 @@
 //! The tests of the second implementation's links: the printed tables against document 01 and the
-//! rulings, and the interleaver.
+//! numbers worked out from both, and the interleaver.
 
+use crate::channel_bits::{self, Column};
 use crate::interleaver::pi;
-use crate::link_tables::LinkTables;
+use crate::link_tables::{LinkTables, Numbers};
 use crate::report::{named_tests, Given, NamedTest, Test};
 use crate::training::Training;
 
@@ -12,7 +13,8 @@ pub const TESTS: &[NamedTest] = named_tests![
     second_patterns_equal_document_01s,
     second_patterns_pass_each_data_bit_once,
     second_tails_end_one_encoder_at_a_time,
-    second_links_have_the_numbers_of_the_rulings,
+    second_links_have_the_numbers_worked_out,
+    second_links_have_the_channel_bits_printed,
     second_training_equals_document_01s,
     second_interleavers_are_permutations,
     second_interleaver_holds_p9,
@@ -94,15 +96,51 @@ fn second_tails_end_one_encoder_at_a_time(given: &Given, test: &mut Test) {
     }
 }
 
-fn second_links_have_the_numbers_of_the_rulings(given: &Given, test: &mut Test) {
+/// What is computed here from Tables 4, 5 and 6, against numbers.txt.
+fn second_links_have_the_numbers_worked_out(given: &Given, test: &mut Test) {
     let tables = LinkTables::read(&given.tables);
     let links = tables.links();
-    test.case(|| "links printed".into(), 22, [tables.numbers.len()]);
-    for (number, printed) in &tables.numbers {
-        let link = links.of(*number);
-        let numbers = [link.k, link.bytes(), link.bits_over(), link.image_length()];
-        let call = || format!("k, bytes, bits over and N of link {number}");
-        test.case(call, *printed, [numbers]);
+    test.case(|| "links in all".into(), 22, [tables.numbers.len()]);
+    for (link, worked_out) in links.all().iter().zip(&tables.numbers) {
+        let row = &tables.table4_row(link.number).row;
+        let tail_bits = link.tail.iter().flatten().sum();
+        let computed = Numbers {
+            link: link.number,
+            k: link.k,
+            bytes: link.bytes(),
+            bits_over: link.bits_over(),
+            pattern: row.pattern.clone(),
+            data_bits: (1..=link.k).flat_map(|s| link.passing(s)).sum(),
+            tail: row.tail.clone(),
+            tail_bits,
+            n: link.image_length(),
+            printed_in: worked_out.printed_in,
+        };
+        let call = || format!("numbers of link {}", link.number);
+        test.case(call, worked_out, [&computed]);
+    }
+}
+
+/// Tables 7 to 11, for the links that they have numbers of: k, data bits, tail, and N as channel bits
+/// without the fill.
+fn second_links_have_the_channel_bits_printed(given: &Given, test: &mut Test) {
+    let tables = LinkTables::read(&given.tables);
+    let links = tables.links();
+    let printed = channel_bits::read(&given.tables);
+    for worked_out in &tables.numbers {
+        let link = links.of(worked_out.link);
+        let tail_bits: usize = link.tail.iter().flatten().sum();
+        let computed = worked_out.printed_in.map(|table| Column {
+            table,
+            link: link.number,
+            n: link.image_length(),
+            tail_bits,
+            data_bits: link.image_length() - tail_bits,
+            k: link.k,
+        });
+        let column = printed.iter().find(|column| column.link == link.number);
+        let call = || format!("bits of link {}", link.number);
+        test.case(call, column, [computed.as_ref()]);
     }
 }
 

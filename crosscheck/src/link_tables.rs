@@ -1,5 +1,5 @@
-//! Reads Tables 4, 5 and 6 of M.2092-1 and what document 01 and the rulings print about the links.
-//! A row that is not just as expected is an error.
+//! Reads Tables 4, 5 and 6 of M.2092-1, what document 01 prints about the links, and the numbers
+//! worked out from both. A row that is not just as expected is an error.
 
 use crate::links::{Clock, Link, Links};
 use crate::tables::rows;
@@ -39,8 +39,23 @@ pub struct LinkTables {
     pub offered: Vec<Row>,
     /// Document 01's sentence: each pattern and the outputs that pass at its clocks.
     pub patterns: Vec<(String, Vec<Clock>)>,
-    /// The rulings' numbers: link, k, bytes, bits over, N.
-    pub numbers: Vec<(u32, [usize; 4])>,
+    pub numbers: Vec<Numbers>,
+}
+
+/// A line of numbers.txt, which says where each number comes from.
+#[derive(Debug, PartialEq)]
+pub struct Numbers {
+    pub link: u32,
+    pub k: usize,
+    pub bytes: usize,
+    pub bits_over: usize,
+    pub pattern: String,
+    pub data_bits: usize,
+    pub tail: String,
+    pub tail_bits: usize,
+    pub n: usize,
+    /// The table that prints k, the data bits and the tail's bits.
+    pub printed_in: Option<u32>,
 }
 
 impl LinkTables {
@@ -58,7 +73,7 @@ impl LinkTables {
             table6: of_each(&rows("table6.txt")?, flags)?,
             offered: offered(&rows("links.txt")?)?,
             patterns: patterns(&rows("patterns.txt")?)?,
-            numbers: numbers(&rows("numbers.txt")?)?,
+            numbers: of_each(&rows("numbers.txt")?, numbers)?,
         })
     }
 
@@ -209,20 +224,29 @@ fn passing(outputs: &str) -> Result<Clock, String> {
     Ok(clock)
 }
 
-/// `5: 288, 32, 0, 394 · 6: ... .`
-fn numbers(rows: &[String]) -> Result<Vec<(u32, [usize; 4])>, String> {
-    let [sentence] = rows else {
-        return Err(format!("{} sentences of numbers, not 1", rows.len()));
+/// Link, k, bytes, bits over, pattern, data bits, tail, its bits, N, and the table that prints them
+/// or -, with spaces between.
+fn numbers(row: &str) -> Result<Numbers, String> {
+    let columns: Vec<&str> = row.split_whitespace().collect();
+    let [link, k, bytes, over, pattern, data, tail, tail_bits, n, printed_in] = columns[..] else {
+        return Err(format!("not ten columns: {row:?}"));
     };
-    between(sentence, "", ".")?
-        .split(" · ")
-        .map(|printed| {
-            let (link, numbers) = printed
-                .split_once(": ")
-                .ok_or(format!("no numbers of a link: {printed:?}"))?;
-            Ok((number(link)?, numbers_of(&numbers.replace(", ", " "))?))
-        })
-        .collect()
+    let printed_in = match printed_in {
+        "-" => None,
+        table => Some(number(table)?),
+    };
+    Ok(Numbers {
+        link: number(link)?,
+        k: number(k)?,
+        bytes: number(bytes)?,
+        bits_over: number(over)?,
+        pattern: pattern.to_string(),
+        data_bits: number(data)?,
+        tail: tail.to_string(),
+        tail_bits: number(tail_bits)?,
+        n: number(n)?,
+        printed_in,
+    })
 }
 
 fn between<'a>(text: &'a str, before: &str, behind: &str) -> Result<&'a str, String> {

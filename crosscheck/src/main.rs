@@ -11,6 +11,7 @@ mod blocks;
 mod both_ways;
 mod both_ways_blocks;
 mod both_ways_slots;
+mod channel_bits;
 mod check_blocks_reading;
 mod check_blocks_writing;
 mod check_coding;
