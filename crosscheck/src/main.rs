@@ -17,6 +17,7 @@ mod check_blocks_writing;
 mod check_coding;
 mod check_links;
 mod check_messages;
+mod check_outside;
 mod check_printer;
 mod check_readers;
 mod check_refusals;
@@ -38,6 +39,7 @@ mod links;
 mod messages;
 mod mixed_faults;
 mod ordered_faults;
+mod outside;
 mod program;
 mod random;
 mod readers;
@@ -68,6 +70,7 @@ fn main() -> ExitCode {
         check_links::TESTS,
         check_coding::TESTS,
         check_worked_burst::TESTS,
+        check_outside::TESTS,
         check_readers::TESTS,
         check_refusals::TESTS,
         check_messages::TESTS,
