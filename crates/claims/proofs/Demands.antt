@@ -63,6 +63,7 @@ demand1 = record {
   write-slot-determined = λ link datagram old old' new new' answer answer' l wr wr'. determined (task-ends (slotTask link datagram) (length old)) wr (rw (← l) at wr');
   read-slot-determined = λ burst old old' new new' answer answer' l wr wr'. determined (slots.ends burst (length old)) wr (rw (← l) at wr');
   step-determined = λ datagram position answer answer' e f. e ∙ sym f;
+  text-determined = λ input answer answer' e f. e ∙ sym f;
   write-word-content = λ n old new new' answer answer' wr wr'. one-content wr wr';
   write-block-content = λ link datagram old new new' answer answer' wr wr'. one-content wr wr';
   read-block-content = λ link bits old new new' answer answer' wr wr'. one-content wr wr';

@@ -1,5 +1,5 @@
--- The public calls as the relations and equations that their contracts name, and for each call the lines of document 01's table of
--- numbers in the order in which it tests them.
+-- The public calls as the relations and equations that their contracts name, and for each call that answers a number the lines of document
+-- 01's table of numbers in the order in which it tests them.
 use mathlib.Core.Path.{_≡_}
 use mathlib.Core.Bool.{Bool, false}
 use mathlib.Core.List.{List, map}
@@ -25,6 +25,8 @@ use Rattle.slots.specs.Calls.{slotTask, writeSlot, readSlot}
 use Rattle.messages.specs.declared.Step.{Step}
 use Rattle.messages.specs.Places.{Spoilt, Begins, Broken}
 use Rattle.messages.specs.Step.{stepMessage}
+use Rattle.printer_text.specs.declared.Text.{Text}
+use Rattle.printer_text.specs.Lines.{textOf}
 use Rattle.claims.specs.Lines.{Lines, none, line}
 
 -- ---- what a call leaves in the lent buffer, which held `old`, and answers
@@ -48,6 +50,10 @@ ReadSlot burst old new answer = Wrote (readSlot burst (length old)) old new answ
 
 abbrev pub Stepped : List ℕ → ℕ → Step → Type 0
 Stepped datagram position answer = answer ≡ stepMessage datagram position
+
+-- what the link word printer prints for the bytes that came
+abbrev pub Printed : List ℕ → Text → Type 0
+Printed input answer = answer ≡ textOf input
 
 -- ---- the lines of each call; `room` is the length of the lent buffer
 -- number above 63; buffer too short

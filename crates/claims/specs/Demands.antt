@@ -31,8 +31,9 @@ use Rattle.messages.specs.Places.{byteAt, Fill, FillFrom, Whole}
 use Rattle.messages.specs.Step.{finished, message, refused as stepRefused}
 use Rattle.messages.specs.Tiling.{Tiles, Tiled, bytesOf}
 use Rattle.messages.specs.Walk.{Walks, walk}
+use Rattle.printer_text.specs.declared.Text.{Text}
 use Rattle.claims.specs.Lines.{Lines, Given}
-use Rattle.claims.specs.Calls.{WroteWord, ReadWord, WroteBlock, ReadBlock, WroteSlot, ReadSlot, Stepped, writeWordLines, readWordLines, writeBlockLines, readBlockLines, writeSlotLines, readSlotLines, stepLines, BlockAnswer, SlotAnswer}
+use Rattle.claims.specs.Calls.{WroteWord, ReadWord, WroteBlock, ReadBlock, WroteSlot, ReadSlot, Stepped, Printed, writeWordLines, readWordLines, writeBlockLines, readBlockLines, writeSlotLines, readSlotLines, stepLines, BlockAnswer, SlotAnswer}
 
 -- "Every call ends and touches nothing but its own buffers, for all input, lying input included." There is no theorem of this: the
 -- checker accepts a function only if it ends for all input and stays inside what it is lent, and no public call has a `requires`.
@@ -77,6 +78,7 @@ pub record Demand1 : Type 1 where
   pub read-slot-determined : (burst old old' new new' : List ℕ) (answer answer' : Slot) → length old ≡ length old'
       → ReadSlot burst old new answer → ReadSlot burst old' new' answer' → (answer ≡ answer') × (take (answer .count) new ≡ take (answer .count) new')
   pub step-determined : (datagram : List ℕ) (position : ℕ) (answer answer' : Step) → Stepped datagram position answer → Stepped datagram position answer' → answer ≡ answer'
+  pub text-determined : (input : List ℕ) (answer answer' : Text) → Printed input answer → Printed input answer' → answer ≡ answer'
   -- and one content of the lent buffer is possible: with equal requests, buffers that held the same before the call hold the same after it
   pub write-word-content : (n : ℕ) (old new new' : List ℕ) (answer answer' : Written) → WroteWord n old new answer → WroteWord n old new' answer' → new ≡ new'
   pub write-block-content : (link : ℕ) (datagram old new new' : List ℕ) (answer answer' : Written)

@@ -1,7 +1,5 @@
 // The link word printer (document 01): reads one line and prints what reading it as a link word answers. `main` only moves
-// bytes; what is printed is `text::text_of`, which is proved.
-mod text;
-
+// bytes; what is printed is `printer_text::text_of`, which is proved.
 use libc::STDIN_FILENO;
 use libc::STDOUT_FILENO;
 ghost use Prim.Native.Nat.{_+_, _≤_};
@@ -25,7 +23,7 @@ fn read_line(buffer: &mut [u8]) -> usize
     while have < buffer.len() {
         let came = read_more(buffer, have);
         let all = have + came;
-        if came == 0 || text::line_end(&buffer[have..all]) < came {
+        if came == 0 || printer_text::line_end(&buffer[have..all]) < came {
             return all;
         }
         have = all;
@@ -36,7 +34,7 @@ fn read_line(buffer: &mut [u8]) -> usize
 fn main() {
     let mut buffer = io::large_buffer();
     let have = read_line(&mut buffer);
-    let text = text::text_of(&buffer[..have]);
+    let text = printer_text::text_of(&buffer[..have]);
     let bytes = text.bytes;
     let count = text.count;
     io::write_all(STDOUT_FILENO, &bytes[..count]);

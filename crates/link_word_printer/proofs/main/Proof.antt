@@ -1,23 +1,10 @@
 -- Both parts that are lent lie within their arrays. Assumes nothing.
-use mathlib.Core.Path.{_≡_, sym}
-use mathlib.Core.List.{List, map}
-use Prim.Native.Nat.{ℕ, _-_, _≤_}
-use native.Mathlib.Omega.{arith}
-use lib.ListN.{length, replicate, length-append}
+use mathlib.Core.Path.{sym}
 use lib.Seq.{length-take-le}
 use borrow.Author.Needs.{needs}
-use Rattle.words.specs.Calls.{readWord}
-use Rattle.link_word_printer.specs.declared.text.Text.{Text}
-use Rattle.link_word_printer.specs.Line.{lineOf, bitOf}
-use Rattle.link_word_printer.specs.Lines.{linesOf, textOf}
+use Rattle.printer_text.proofs.Within.{within}
 use Rattle.link_word_printer.proofs.main.Statement.{statement}
 use Rattle.link_word_printer.proofs.main.Tie as tie
-
-within : (input : List ℕ) {text : Text} → text ≡ textOf input → text .count ≤ length (text .bytes)
-unfolding textOf
-within input e =
-    let lines = linesOf (readWord (map bitOf (lineOf input))) in
-    rw e (omega (arith, length-append lines (replicate (32 - length lines) 0)))
 
 large-buffer-requires : tie.Need-large-buffer-requires
 large-buffer-requires c κs = search needs

@@ -10,9 +10,9 @@ use Rattle.lists.proofs.Over.{start, more, done, over-all}
 use Rattle.lists.proofs.Parts.{map-more, map-done}
 use Rattle.words.specs.Calls.{readWord}
 use Rattle.words.proofs.Calls.{read-length}
-use Rattle.link_word_printer.specs.Line.{bitOf}
-use Rattle.link_word_printer.proofs.text.read_characters.Statement.{statement}
-use Rattle.link_word_printer.proofs.text.read_characters.Tie as tie
+use Rattle.printer_text.specs.Line.{bitOf}
+use Rattle.printer_text.proofs.read_characters.Statement.{statement}
+use Rattle.printer_text.proofs.read_characters.Tie as tie
 
 abbrev Inv-loop : tie.InvT-loop
 Inv-loop line row₀ i₀ row i = (i ≤ 32) × (length line ≡ 32) × (length row₀ ≡ 32) × Laying row₀ 0 (map bitOf line) row i (map bitOf (drop i line))

@@ -2,8 +2,8 @@
 use native.Mathlib.Omega.{arith}
 use borrow.Author.Needs.{needs}
 use borrow.Author.Tests.{lt-ltb, ne-eqb}
-use Rattle.link_word_printer.proofs.text.refusal_lines.Statement.{statement}
-use Rattle.link_word_printer.proofs.text.refusal_lines.Tie as tie
+use Rattle.printer_text.proofs.refusal_lines.Statement.{statement}
+use Rattle.printer_text.proofs.refusal_lines.Tie as tie
 
 digit-requires : tie.Need-digit-requires
 digit-requires c κs = search needs

@@ -1,8 +1,8 @@
 -- Character by character. Assumes nothing.
 use borrow.Author.Tests.{ne-eqb}
-use Rattle.link_word_printer.specs.Line.{bitOf}
-use Rattle.link_word_printer.proofs.text.bit_of.Statement.{statement}
-use Rattle.link_word_printer.proofs.text.bit_of.Tie as tie
+use Rattle.printer_text.specs.Line.{bitOf}
+use Rattle.printer_text.proofs.bit_of.Statement.{statement}
+use Rattle.printer_text.proofs.bit_of.Tie as tie
 
 returns : tie.Need-returns
 unfolding bitOf

@@ -5,8 +5,8 @@ ghost use mathlib.Core.List.{map};
 ghost use Prim.Native.Nat.{_+_, _<_};
 ghost use lib.ListN.{length};
 ghost use Rattle.words.specs.Calls.{readWord, found, refused};
-ghost use Rattle.link_word_printer.specs.Line.{bitOf, lineOf};
-ghost use Rattle.link_word_printer.specs.Lines.{padded, linesOf, textOf};
+ghost use Rattle.printer_text.specs.Line.{bitOf, lineOf};
+ghost use Rattle.printer_text.specs.Lines.{padded, linesOf, textOf};
 
 // The printed bytes stand at the start, and zeros behind them.
 pub struct Text {

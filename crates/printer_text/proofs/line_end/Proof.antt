@@ -5,10 +5,10 @@ use native.Mathlib.Nat.{zero-add}
 use native.Mathlib.Omega.{arith}
 use lib.ListN.{length, drop}
 use borrow.Author.Needs.{needs}
-use Rattle.link_word_printer.specs.Line.{lineOf}
-use Rattle.link_word_printer.proofs.Line.{line-ends, line-goes-on, line-none}
-use Rattle.link_word_printer.proofs.text.line_end.Statement.{statement}
-use Rattle.link_word_printer.proofs.text.line_end.Tie as tie
+use Rattle.printer_text.specs.Line.{lineOf}
+use Rattle.printer_text.proofs.Line.{line-ends, line-goes-on, line-none}
+use Rattle.printer_text.proofs.line_end.Statement.{statement}
+use Rattle.printer_text.proofs.line_end.Tie as tie
 
 abbrev Inv-loop : tie.InvT-loop
 Inv-loop input i₀ i-end i = (i ≤ i-end) × (i-end ≡ length input) × (i + length (lineOf (drop i input)) ≡ length (lineOf input))

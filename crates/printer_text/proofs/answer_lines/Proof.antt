@@ -2,8 +2,8 @@
 use native.Mathlib.Omega.{arith}
 use borrow.Author.Needs.{needs}
 use borrow.Author.Tests.{lt-ltb, le-ltb}
-use Rattle.link_word_printer.proofs.text.answer_lines.Statement.{statement}
-use Rattle.link_word_printer.proofs.text.answer_lines.Tie as tie
+use Rattle.printer_text.proofs.answer_lines.Statement.{statement}
+use Rattle.printer_text.proofs.answer_lines.Tie as tie
 
 digit-requires : tie.Need-digit-requires
 digit-requires c κs = search needs

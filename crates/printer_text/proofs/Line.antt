@@ -10,7 +10,7 @@ use lib.Dec.{eqb}
 use lib.ListN.{length, getD, take, drop, length-take, drop-of-length-le}
 use lib.Seq.{drop-cons}
 use borrow.Author.Tests.{eq-eqb, ne-eqb}
-use Rattle.link_word_printer.specs.Line.{lineOf}
+use Rattle.printer_text.specs.Line.{lineOf}
 
 pub line-ends : (input : List ℕ) (i : ℕ) → i < length input → getD input i 0 ≡ 10 → lineOf (drop i input) ≡ []
 unfolding lineOf

@@ -7,9 +7,9 @@ use lib.Dec.{eqb, ltb}
 use lib.ListN.{length, replicate}
 use Rattle.words.specs.declared.Word.{Word}
 use Rattle.words.specs.Calls.{readWord}
-use Rattle.link_word_printer.specs.declared.text.Text.{Text}
-use Rattle.link_word_printer.specs.Bytes.{bytesOf}
-use Rattle.link_word_printer.specs.Line.{lineOf, bitOf}
+use Rattle.printer_text.specs.declared.Text.{Text}
+use Rattle.printer_text.specs.Bytes.{bytesOf}
+use Rattle.printer_text.specs.Line.{lineOf, bitOf}
 
 -- a number below 100 in decimal
 abbrev pub decimal : ℕ → List ℕ

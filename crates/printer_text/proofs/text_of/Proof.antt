@@ -8,12 +8,12 @@ use lib.Seq.{length-take-le}
 use borrow.Author.Needs.{needs}
 use Rattle.words.specs.declared.Word.{Word}
 use Rattle.words.specs.Calls.{readWord}
-use Rattle.link_word_printer.specs.Line.{lineOf, bitOf}
-use Rattle.link_word_printer.specs.Lines.{padded, linesOf, textOf}
-use Rattle.link_word_printer.proofs.Answer.{answered, refused-with}
-use Rattle.link_word_printer.proofs.Line.{line-front, line-within}
-use Rattle.link_word_printer.proofs.text.text_of.Statement.{statement}
-use Rattle.link_word_printer.proofs.text.text_of.Tie as tie
+use Rattle.printer_text.specs.Line.{lineOf, bitOf}
+use Rattle.printer_text.specs.Lines.{padded, linesOf, textOf}
+use Rattle.printer_text.proofs.Answer.{answered, refused-with}
+use Rattle.printer_text.proofs.Line.{line-front, line-within}
+use Rattle.printer_text.proofs.text_of.Statement.{statement}
+use Rattle.printer_text.proofs.text_of.Tie as tie
 
 -- what is printed for a word that was read from the line
 printed : (input : List ℕ) {end : ℕ} {word : Word} → end ≡ length (lineOf input) → word ≡ readWord (map bitOf (take end input)) → padded (linesOf word) ≡ textOf input
