@@ -108,10 +108,11 @@ pub record Demand2 : Type 0 where
   pub block-product : (link : ℕ) → offered link ≡ true → rowOf link .k1 * rowOf link .k2 ≡ rowOf link .k
   -- N of each link, in the order of `links`
   pub image-lengths : map imageLength rows ≡ 394 ∷ 906 ∷ 1418 ∷ 396 ∷ 908 ∷ 1420 ∷ 874 ∷ 1308 ∷ 1740 ∷ 1804 ∷ 2700 ∷ 3596 ∷ 3754 ∷ 5388 ∷ 7500 ∷ 402 ∷ 1112 ∷ 4692 ∷ 6828 ∷ 9562 ∷ 1269 ∷ 12855 ∷ []
-  -- of the six flags of a clock, for X Y0 Y1 X' Y'0 Y'1, that of X is 1 and that of X' is 0, at every clock of every link
+  -- at every clock s of every link's block X passes once and X' never: of its six flags, for X Y0 Y1 X' Y'0 Y'1, the first is 1 and the
+  -- fourth is 0
   pub x-once : (link : ℕ) → offered link ≡ true → (s : ℕ) → let flags = flagsAt (patternOf (rowOf link .pattern)) s in (getD flags 0 0 ≡ 1) × (getD flags 3 0 ≡ 0)
-  -- so a clock with registers a and b and inputs x and y passes on x once, then what the flags of Y0 and Y1 and those of Y'0 and Y'1 let
-  -- pass of the parity bits, and y never
+  -- so such a clock, with registers a and b and inputs x and y, passes on x, then what the flags let pass of Y0 and Y1, then of Y'0 and
+  -- Y'1, and nothing else
   pub x-passes : (link : ℕ) → offered link ≡ true → (s : ℕ) (a b : Register) (x y : Bool) → let flags = flagsAt (patternOf (rowOf link .pattern)) s in
       passed flags (six a b x y) ≡ x ∷ passed (take 2 (drop 1 flags)) (y0 a x ∷ y1 a x ∷ []) ++ passed (drop 4 flags) (y0 b y ∷ y1 b y ∷ [])
   -- "What we write we read back: the datagram, zero-filled to its link's size."

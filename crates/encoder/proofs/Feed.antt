@@ -4,7 +4,7 @@
 use mathlib.Core.Path.{_≡_, refl, sym, ap, ap₂, _∙_}
 use mathlib.Core.Bool.{Bool}
 use mathlib.Core.List.{List, [], _∷_}
-use Prim.Native.Nat.{ℕ, _+_, _*_, _/_, _%_, _^_, _≤_, _<_}
+use Prim.Native.Nat.{ℕ, _+_, _*_, _/_, _%_, _^_, _<_}
 use native.Mathlib.Nat.{mod-eq-of-lt, lt-of-le-of-lt}
 use native.Mathlib.Omega.{arith}
 use lib.Bits.{bitAnd, bitOr, bitXor, xor-shr, xor-mod, xor-shifted, or-shifted}
@@ -12,11 +12,10 @@ use lib.Dec.{eqb, eqb→eq}
 use lib.ListN.{length}
 use lib.Pow.{shr-shr, shr-le}
 use Rattle.lists.proofs.Line.{line}
-use Rattle.bits.specs.Bits.{byte}
-use Rattle.bits.specs.Row.{numberOn, number}
+use Rattle.bits.specs.Row.{number}
 use Rattle.bits.specs.Xor.{_⊕_}
 use Rattle.bits.proofs.Row.{number-lt}
-use Rattle.bits.proofs.Xor.{⊕-assoc, ⊕-comm, ⊕-left-comm, ⊕-self, zero-⊕, ⊕-zero, ⊕-lt, ⊕-middle, ⊕-equal}
+use Rattle.bits.proofs.Xor.{⊕-assoc, ⊕-comm, ⊕-left-comm, ⊕-self, zero-⊕, ⊕-zero, ⊕-lt, ⊕-middle}
 use Rattle.turbo.specs.Encoder.{Register, fed, next}
 use Rattle.turbo.specs.Outputs.{outputs}
 use Rattle.encoder.specs.Number.{numberOf}

@@ -1,16 +1,16 @@
 -- The inputs of some clocks as a number: in parts, and four of them at once.
 -- Assumes nothing.
-use mathlib.Core.Path.{_≡_, refl, sym, ap, ap₂, _∙_}
+use mathlib.Core.Path.{_≡_, refl, ap, _∙_}
 use mathlib.Core.Bool.{Bool, true}
 use mathlib.Core.List.{List, [], _∷_, _++_, map, map-append}
-use Prim.Native.Nat.{ℕ, _+_, _*_, _/_, _%_, _^_, _≤_, _<_}
+use Prim.Native.Nat.{ℕ, _+_, _*_, _^_, _≤_, _<_}
 use native.Mathlib.Omega.{arith}
 use lib.ListN.{length, getD, take, drop, length-map, length-drop}
 use lib.Seq.{drop-cons, length-take-le, take-add, drop-drop}
 use Rattle.bits.specs.Bits.{isOne, byte, allBits}
 use Rattle.bits.specs.Row.{highFirst, numberOn, number}
 use Rattle.bits.proofs.Bits.{byte-isOne, bit-low}
-use Rattle.bits.proofs.Row.{number-lt, highFirst-number}
+use Rattle.bits.proofs.Row.{highFirst-number}
 use Rattle.encoder.specs.Inputs.{clocksAt}
 use Rattle.encoder.proofs.Taps.{on-split}
 

@@ -1,28 +1,19 @@
 -- The register as a number: it stands for the register it was made of, and a rule over registers and inputs is computed at all sixteen.
 -- Assumes nothing.
-use mathlib.Core.Path.{_≡_, refl, ap, _∙_}
+use mathlib.Core.Path.{_≡_, ap, _∙_}
 use mathlib.Core.Bool.{Bool}
-use Prim.Native.Nat.{ℕ, _+_, _*_, _/_, _%_, _≤_, _<_}
+use Prim.Native.Nat.{ℕ, _/_, _%_, _≤_, _<_}
 use native.Mathlib.Omega.{arith}
 use lib.Dec.{T, eqb, eqb→eq}
 use Rattle.lists.proofs.Line.{upto, square}
 use Rattle.bits.specs.Bits.{isOne, byte}
 use Rattle.bits.proofs.Bits.{byte-lt, isOne-byte}
-use Rattle.turbo.specs.Encoder.{Register, start, feedback, fed, next}
+use Rattle.turbo.specs.Encoder.{Register, feedback, next}
 use Rattle.encoder.specs.Number.{registerOf, numberOf}
 
 -- two functions of a register and an input that agree wherever antt computes them, agree
 pub agree : (f g : ℕ → ℕ → ℕ) → T (upto 8 (λ r. upto 2 (λ u. eqb (f r u) (g r u)))) → (r u : ℕ) → r < 8 → u ≤ 1 → f r u ≡ g r u
 agree f g t r u hr hu = eqb→eq (f r u) (g r u) (square 8 2 (λ r u. eqb (f r u) (g r u)) t r u hr (omega arith))
-
--- the register with a shifted in at its low end
-abbrev pub shiftedIn : ℕ → ℕ → ℕ
-shiftedIn r u = 2 * r + byte (fed (registerOf r) (isOne u))
-
--- what the code makes of that
-pub of-shifted : (f : ℕ → ℕ) (g : Register → Bool → ℕ) → T (upto 8 (λ r. upto 2 (λ u. eqb (f (shiftedIn r u)) (g (registerOf r) (isOne u)))))
-    → (bits r u : ℕ) → bits ≡ shiftedIn r u → r < 8 → u ≤ 1 → f bits ≡ g (registerOf r) (isOne u)
-of-shifted f g t bits r u e hr hu = ap f e ∙ agree (λ r u. f (shiftedIn r u)) (λ r u. g (registerOf r) (isOne u)) t r u hr hu
 
 -- the register that three bits make, each kept as a byte
 pub register-of : (x : Register) (b1 b2 b3 : ℕ) → b1 ≡ byte (x .a1) → b2 ≡ byte (x .a2) → b3 ≡ byte (x .a3) → record { a1 = isOne b1; a2 = isOne b2; a3 = isOne b3 } ≡ x
@@ -39,10 +30,6 @@ register-made x {n} e =
 pub made-small : (x : Register) {n : ℕ} → n ≡ numberOf x → n < 8
 unfolding numberOf
 made-small x e = omega (arith, e, byte-lt (x .a1), byte-lt (x .a2), byte-lt (x .a3))
-
-pub register-start : registerOf 0 ≡ start
-unfolding registerOf
-register-start = refl
 
 -- a bit that the code made
 pub is-one : (b : Bool) {u : ℕ} → u ≡ byte b → isOne u ≡ b

@@ -11,7 +11,6 @@ use lib.Bits.{bitXor, xor-block}
 use lib.ListN.{length}
 use Rattle.bits.specs.Bits.{byte}
 use Rattle.bits.specs.Row.{numberOn, number}
-use Rattle.bits.specs.Xor.{_⊕_}
 use Rattle.bits.proofs.Bits.{byte-lt}
 use Rattle.bits.proofs.Row.{number-lt}
 use Rattle.bits.proofs.Xor.{⊕-is, ⊕-bits}

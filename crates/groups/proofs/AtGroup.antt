@@ -14,8 +14,6 @@ use Rattle.lists.specs.Over.{Room, Lays, Laying}
 use Rattle.lists.proofs.Over.{over-zero, fits-rest, fits-piece, more-piece, last}
 use Rattle.lists.proofs.Over as laying
 use Rattle.bits.specs.Bits.{byte}
-use Rattle.turbo.specs.Encoder.{Register}
-use Rattle.turbo.specs.Parity.{registerAfter}
 use Rattle.encoder.specs.Inputs.{clocksAt}
 use Rattle.encoder.specs.Number.{registerOf}
 use Rattle.encoder.proofs.Number.{register-made, made-small}
