@@ -7,7 +7,7 @@ use Prim.Native.Nat.{ℕ, suc, _+_, _*_, _/_, _%_, _^_, _<_}
 use native.Mathlib.Nat.{pow-succ', add-mul, mul-assoc, zero-add, mod-eq-of-lt}
 use native.Mathlib.Omega.{arith}
 use lib.Arith.{digits-mod}
-use lib.Bits.{bitXor, xor-block}
+use lib.Bits.{bitAnd, bitXor, and-mask, xor-block}
 use lib.ListN.{length}
 use Rattle.bits.specs.Bits.{byte}
 use Rattle.bits.specs.Row.{numberOn, number}
@@ -151,9 +151,9 @@ unfolding numberOn outputs registerAfter
 last-all w r [] e = e
 last-all w r (x ∷ row) e = last-all (w * 2 + byte (fed r x)) (next r x) row (moved w r e x)
 
-pub last-of : (n : ℕ) → Last n (n % 8)
+pub last-of : (n : ℕ) → Last n (bitAnd n 7)
 unfolding fedOn
-last-of n r row e = ap (λ (m : ℕ). m % 8) e ∙ last-all (numberOf r) r row (small-stands r)
+last-of n r row e = and-mask n 3 ∙ ap (λ (m : ℕ). m % 8) e ∙ last-all (numberOf r) r row (small-stands r)
 
 -- ---- of one clock
 module _ (y : Register → Bool → Bool) (n t : ℕ) (tapped : Taps y n t) (r : Register) where

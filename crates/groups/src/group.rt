@@ -72,8 +72,12 @@ pub fn put_group(a: u32, b: u32, u: &[u8], v: &[u8], s: usize) -> Put
     let y = packed(v, s);
     let fed = many(a, x);
     let second = many(b, y);
+    let a_y0 = y0(fed);
+    let a_y1 = y1(fed);
+    let b_y0 = y0(second);
+    let b_y1 = y1(second);
     Put {
-        bits: [x, y0(fed), y1(fed), y, y0(second), y1(second), 0, 0],
+        bits: [x, a_y0, a_y1, y, b_y0, b_y1, 0, 0],
         a: last(fed),
         b: last(second),
     }
