@@ -28,15 +28,6 @@ start c = compared c .before .before .before .before .before .before
 few : (c : tie.Else1) → compared c .compare .result ≤ start c .args .limit
 few c = omega (arith, c .if1 .left)
 
-compare-requires : tie.Need-compare-requires
-compare-requires c κs = search needs
-
-refuse-requires : tie.Need-refuse-requires
-refuse-requires c κs = search needs
-
-same-length : tie.Need-same-length
-same-length c = search needs
-
 returns : tie.Need-returns
 returns c = refuses (far-refused _ _ _ _ _ (omega (arith, c .before .before .before .before .compare .ensures, c .before .if1 .taken))) (c .refuse .ensures)
 
@@ -52,20 +43,8 @@ pack-requires c κs =
     let held = c .before .bytes-held .ensures in
     (omega (arith, held, at .pre .1, sizes (at .args .row) (at .pre .0) .whole), omega (arith, held, at .pre .6))
 
-cast-answer : tie.Need-cast-answer
-cast-answer c = search needs
-
 cast-answer-2 : tie.Need-cast-answer-2
 cast-answer-2 c = record { fits = omega (arith, few (c .before .before .before .before .before)) }
-
-answer-requires : tie.Need-answer-requires
-answer-requires c κs = search needs
-
-same-length-2 : tie.Need-same-length-2
-same-length-2 c = search needs
-
-same-length-3 : tie.Need-same-length-3
-same-length-3 c = search needs
 
 returns-2 : tie.Need-returns-2
 returns-2 c =
@@ -86,16 +65,12 @@ pub accept-spec : {M : Type 1} → statement M
 accept-spec =
     tie.close
     (tie.spec
-    compare-requires
-    refuse-requires
-    same-length
+    (λ c κs. search needs) (λ c κs. search needs) (λ c. search needs)
     returns
     bytes-held-requires
     mul-pack
     pack-requires
-    cast-answer
+    (λ c. search needs)
     cast-answer-2
-    answer-requires
-    same-length-2
-    same-length-3
+    (λ c κs. search needs) (λ c. search needs) (λ c. search needs)
     returns-2)

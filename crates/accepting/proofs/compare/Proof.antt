@@ -18,9 +18,6 @@ use Rattle.accepting.proofs.compare.Tie as tie
 short : (c : tie.After-block) → length (c .before .before .before .before .args .u .now) ≤ longestBlock
 short c = let start = c .before .before .before .before in omega (arith, start .pre .1, sizes _ (start .pre .0) .block)
 
-block-requires : tie.Need-block-requires
-block-requires c κs = search needs
-
 array-borrow-prefix-v : tie.Need-array-borrow-prefix-v
 array-borrow-prefix-v c = scratch-enough longestBlock _ (c .block .ensures) (short c)
 
@@ -47,9 +44,6 @@ differences-up-to-requires c κs =
       start .pre .4,
     )
 
-same-length : tie.Need-same-length
-same-length c = search needs
-
 returns : tie.Need-returns
 returns c =
     let start = c .before .before .before .before .before .before .before .before .before .before .before .before in
@@ -62,10 +56,10 @@ pub compare-spec : {M : Type 1} → statement M
 compare-spec =
     tie.close
     (tie.spec
-    block-requires
+    (λ c κs. search needs)
     array-borrow-prefix-v
     slice-aggregate-lay-image
     lay-image-requires
     differences-up-to-requires
-    same-length
+    (λ c. search needs)
     returns)

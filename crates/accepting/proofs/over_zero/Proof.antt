@@ -22,17 +22,11 @@ open-bits-requires c κs = sizes (c .before .args .row) (c .before .pre .0) .che
 bytes-held-requires : tie.Need-bytes-held-requires Inv-loop μ-loop
 bytes-held-requires c κs = sizes (c .before .before .args .row) (c .before .before .pre .0) .check
 
-mul-i : tie.Need-mul-i Inv-loop μ-loop
-mul-i c = search needs
-
 loop-holds : tie.Need-loop-holds Inv-loop μ-loop
 loop-holds c =
     let start = c .before .before .before in
     let z = sizes (start .args .row) (start .pre .0) in
     (search needs, omega (arith, c .bytes-held .ensures, c .before .open-bits .ensures, z .whole), omega (arith, c .before .open-bits .ensures, start .pre .1), refl)
-
-shared-slice-read-if1 : tie.Need-shared-slice-read-if1 Inv-loop μ-loop
-shared-slice-read-if1 c = search needs
 
 returns : tie.Need-returns Inv-loop μ-loop
 unfolding codingOf
@@ -42,12 +36,6 @@ returns c =
     let u = sized .before .before .before .args .u .now in
     sym (over-one u _ (at .inv .2) (at .i) (omega arith) (c .if1 .taken))
     ∙ at .inv .3 ∙ ap₂ (λ (end n : ℕ). leftOver u end (n * 8)) (sized .before .open-bits .ensures) (sized .bytes-held .ensures)
-
-add-i : tie.Need-add-i Inv-loop μ-loop
-add-i c = search needs
-
-loop-less : tie.Need-loop-less Inv-loop μ-loop
-loop-less c = search needs
 
 loop-again : tie.Need-loop-again Inv-loop μ-loop
 loop-again c =
@@ -72,11 +60,10 @@ over-zero-spec =
     μ-loop
     open-bits-requires
     bytes-held-requires
-    mul-i
+    (λ c. search needs)
     loop-holds
-    shared-slice-read-if1
+    (λ c. search needs)
     returns
-    add-i
-    loop-less
+    (λ c. search needs) (λ c. search needs)
     loop-again
     returns-2)

@@ -24,35 +24,11 @@ loop-holds c =
     let a = c .args in
     (search needs, rw (add-zero, sub-zero) (start (a .out .now) (a .at) (map byte (highFirst (a .count) (a .word))) (simp (length-map, length-highFirst) (omega arith))))
 
-add-out : tie.Need-add-out Inv-loop μ-loop
-add-out c = search needs
-
-sub-out : tie.Need-sub-out Inv-loop μ-loop
-sub-out c = search needs
-
-cast-out : tie.Need-cast-out Inv-loop μ-loop
-cast-out c = search needs
-
-shr-out : tie.Need-shr-out Inv-loop μ-loop
-shr-out c = search needs
-
-cast-out-2 : tie.Need-cast-out-2 Inv-loop μ-loop
-cast-out-2 c = search needs
-
-add-out-2 : tie.Need-add-out-2 Inv-loop μ-loop
-add-out-2 c = search needs
-
 slice-write-out : tie.Need-slice-write-out Inv-loop μ-loop
 slice-write-out c =
     let a = c .before .before .args in
     let at = c .before .loop in
     fits _ _ (at .inv .1) (bits-more (a .count) (a .word) (at .i) (omega arith))
-
-add-i : tie.Need-add-i Inv-loop μ-loop
-add-i c = search needs
-
-loop-less : tie.Need-loop-less Inv-loop μ-loop
-loop-less c = search needs
 
 loop-again : tie.Need-loop-again Inv-loop μ-loop
 loop-again c =
@@ -73,15 +49,9 @@ lay-bits-spec =
     Inv-loop
     μ-loop
     loop-holds
-    add-out
-    sub-out
-    cast-out
-    shr-out
-    cast-out-2
-    add-out-2
+    (λ c. search needs) (λ c. search needs) (λ c. search needs) (λ c. search needs) (λ c. search needs) (λ c. search needs)
     slice-write-out
-    add-i
-    loop-less
+    (λ c. search needs) (λ c. search needs)
     loop-again
     same-length
     returns)

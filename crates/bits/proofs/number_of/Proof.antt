@@ -25,23 +25,11 @@ loop-holds c = (search needs, search needs, omega arith, refl)
 mul-word : tie.Need-mul-word Inv-loop μ-loop
 mul-word c = record { fits = omega (arith, below-32 (c .before .loop .word) (c .before .loop .i) (omega arith) (c .before .loop .inv .2)) }
 
-shared-slice-read-bit-in : tie.Need-shared-slice-read-bit-in Inv-loop μ-loop
-shared-slice-read-bit-in c = search needs
-
-bit-in-requires : tie.Need-bit-in-requires Inv-loop μ-loop
-bit-in-requires c κs = search needs
-
 add-word : tie.Need-add-word Inv-loop μ-loop
 add-word c =
     let at = c .before .before .before .loop in
     let a = c .before .before .before .before .before .args in
     record { fits = omega (arith, below-32 (at .word) (at .i) (omega arith) (at .inv .2), c .bit-in .ensures, byte-lt (isOne (getD (a .row .now) (at .i) 0))) }
-
-add-i : tie.Need-add-i Inv-loop μ-loop
-add-i c = search needs
-
-loop-less : tie.Need-loop-less Inv-loop μ-loop
-loop-less c = search needs
 
 loop-again : tie.Need-loop-again Inv-loop μ-loop
 loop-again c =
@@ -64,10 +52,8 @@ number-of-spec =
     μ-loop
     loop-holds
     mul-word
-    shared-slice-read-bit-in
-    bit-in-requires
+    (λ c. search needs) (λ c κs. search needs)
     add-word
-    add-i
-    loop-less
+    (λ c. search needs) (λ c. search needs)
     loop-again
     returns)

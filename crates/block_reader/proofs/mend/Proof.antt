@@ -14,25 +14,10 @@ use Rattle.block_reader.proofs.mend.Tie as tie
 told : (c : tie.After-register) → c .register .result ≡ register (map isOne (c .before .before .before .before .args .u .now))
 told c = rw (c .before .before .load .ensures) at (c .register .ensures)
 
-load-requires : tie.Need-load-requires
-load-requires c κs = search needs
-
-register-requires : tie.Need-register-requires
-register-requires c κs = search needs
-
-same-length : tie.Need-same-length
-same-length c = search needs
-
 returns : tie.Need-returns
 returns c =
     let start = c .before .before .before .before .before in
     mends-closed (start .args .u .now) (start .pre) _ (told (c .before)) (c .if1 .taken)
-
-bits-after-requires : tie.Need-bits-after-requires
-bits-after-requires c κs = search needs
-
-same-length-2 : tie.Need-same-length-2
-same-length-2 c = search needs
 
 returns-2 : tie.Need-returns-2
 returns-2 c =
@@ -54,9 +39,6 @@ sub-u c = let start = c .before .before .before .before .before .before .before 
 slice-write-u : tie.Need-slice-write-u
 slice-write-u c = omega arith
 
-same-length-3 : tie.Need-same-length-3
-same-length-3 c = search needs
-
 returns-3 : tie.Need-returns-3
 returns-3 c =
     let start = c .before .before .before .before .before .before .before .before in
@@ -66,17 +48,14 @@ pub mend-spec : {M : Type 1} → statement M
 mend-spec =
     tie.close
     (tie.spec
-    load-requires
-    register-requires
-    same-length
+    (λ c κs. search needs) (λ c κs. search needs) (λ c. search needs)
     returns
-    bits-after-requires
-    same-length-2
+    (λ c κs. search needs) (λ c. search needs)
     returns-2
     add-place
     sub-place
     slice-read-u
     sub-u
     slice-write-u
-    same-length-3
+    (λ c. search needs)
     returns-3)

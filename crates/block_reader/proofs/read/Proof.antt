@@ -58,15 +58,6 @@ fits c =
 all : (c : tie.Else4) → allBits (begun (c .before .before .before .before) .args .bits .now) ≡ true
 all c = holds (c .before .before .all-bits .ensures) (c .if4 .left)
 
-place-of-requires : tie.Need-place-of-requires
-place-of-requires c κs = search needs
-
-has-row-requires : tie.Need-has-row-requires
-has-row-requires c κs = search needs
-
-refuse-requires : tie.Need-refuse-requires
-refuse-requires c κs = search needs
-
 returns : tie.Need-returns
 returns c =
     let at = c .before .before in
@@ -83,20 +74,11 @@ bytes-held-requires c κs =
     let passed = c .before .before in
     sizes (c .before .row-at .result) (row-good _ (found passed .place-of .ensures) (c .before .row-at .ensures) (offers passed)) .check
 
-refuse-requires-2 : tie.Need-refuse-requires-2
-refuse-requires-2 c κs = search needs
-
 returns-2 : tie.Need-returns-2
 returns-2 c =
     let at = c .before .before in
     let other = unequal (length (begun at .args .bits .now)) (at .before .image-length-at .result) (c .before .if2 .taken) in
     refuses (read-length _ _ _ (offers (placed at)) (λ e. other (e ∙ sym (long at)))) (c .refuse2 .ensures)
-
-all-bits-requires : tie.Need-all-bits-requires
-all-bits-requires c κs = search needs
-
-refuse-requires-3 : tie.Need-refuse-requires-3
-refuse-requires-3 c κs = search needs
 
 returns-3 : tie.Need-returns-3
 returns-3 c =
@@ -104,9 +86,6 @@ returns-3 c =
     let at = sized .before in
     let short = ltb-true (length (begun at .args .out .now)) (at .bytes-held .result) (c .before .if3 .taken) in
     refuses (read-short _ _ _ (offers (placed at)) (size sized) (omega (arith, held at, short))) (c .refuse3 .ensures)
-
-refuse-requires-4 : tie.Need-refuse-requires-4
-refuse-requires-4 c κs = search needs
 
 returns-4 : tie.Need-returns-4
 returns-4 c =
@@ -123,9 +102,6 @@ read-row-requires c κs =
       rw is-row (fits (c .before .before)),
     )
 
-same-length : tie.Need-same-length
-same-length c = search needs
-
 returns-5 : tie.Need-returns-5
 returns-5 c =
     let tested = c .before .before .before .before in
@@ -136,20 +112,17 @@ pub read-spec : {M : Type 1} → statement M
 read-spec =
     tie.close
     (tie.spec
-    place-of-requires
-    has-row-requires
-    refuse-requires
+    (λ c κs. search needs) (λ c κs. search needs) (λ c κs. search needs)
     returns
     row-at-requires
     image-length-at-requires
     bytes-held-requires
-    refuse-requires-2
+    (λ c κs. search needs)
     returns-2
-    all-bits-requires
-    refuse-requires-3
+    (λ c κs. search needs) (λ c κs. search needs)
     returns-3
-    refuse-requires-4
+    (λ c κs. search needs)
     returns-4
     read-row-requires
-    same-length
+    (λ c. search needs)
     returns-5)

@@ -32,40 +32,16 @@ came-long c = length-map (start c .args .came .now) isOne ∙ start c .pre .1
 closed : (c : tie.Else1) → mended c .mend .result ≡ true
 closed c = not-false (mended c .mend .result) (c .if1 .left)
 
-receive-requires : tie.Need-receive-requires
-receive-requires c κs = search needs
-
 mend-requires : tie.Need-mend-requires
 mend-requires c κs =
     let at = c .before .before .before .before .before in
     rw (at .receive .ensures) (all-bytes (received (codingOf (start at .args .row)) (map isOne (start at .args .came .now))))
-
-refuse-requires : tie.Need-refuse-requires
-refuse-requires c κs = search needs
-
-same-length : tie.Need-same-length
-same-length c = search needs
-
-same-length-2 : tie.Need-same-length-2
-same-length-2 c = search needs
 
 returns : tie.Need-returns
 returns c =
     let m = c .before .before .before .before in
     let at = taken m in
     refuses (none-closes _ (start at .pre .0) _ (came-long at) _ _ _ (at .receive .ensures) (m .mend .ensures) (not-true (m .mend .result) (c .before .if1 .taken))) (c .refuse .ensures)
-
-over-zero-requires : tie.Need-over-zero-requires
-over-zero-requires c κs = search needs
-
-refuse-requires-2 : tie.Need-refuse-requires-2
-refuse-requires-2 c κs = search needs
-
-same-length-3 : tie.Need-same-length-3
-same-length-3 c = search needs
-
-same-length-4 : tie.Need-same-length-4
-same-length-4 c = search needs
 
 returns-2 : tie.Need-returns-2
 returns-2 c =
@@ -89,15 +65,6 @@ accept-requires c κs =
       start at .pre .5,
     )
 
-same-length-5 : tie.Need-same-length-5
-same-length-5 c = search needs
-
-same-length-6 : tie.Need-same-length-6
-same-length-6 c = search needs
-
-same-length-7 : tie.Need-same-length-7
-same-length-7 c = search needs
-
 returns-3 : tie.Need-returns-3
 returns-3 c =
     let accepted = c .before .before .before .before in
@@ -113,19 +80,12 @@ pub read-block-spec : {M : Type 1} → statement M
 read-block-spec =
     tie.close
     (tie.spec
-    receive-requires
+    (λ c κs. search needs)
     mend-requires
-    refuse-requires
-    same-length
-    same-length-2
+    (λ c κs. search needs) (λ c. search needs) (λ c. search needs)
     returns
-    over-zero-requires
-    refuse-requires-2
-    same-length-3
-    same-length-4
+    (λ c κs. search needs) (λ c κs. search needs) (λ c. search needs) (λ c. search needs)
     returns-2
     accept-requires
-    same-length-5
-    same-length-6
-    same-length-7
+    (λ c. search needs) (λ c. search needs) (λ c. search needs)
     returns-3)

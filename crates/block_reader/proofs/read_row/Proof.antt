@@ -16,15 +16,6 @@ short c = sizes _ (c .before .before .before .before .before .pre .0) .block
 image-short : (c : tie.After-image) → length (c .before .before .before .before .before .args .came .now) ≤ longestImage
 image-short c = let start = c .before .before .before .before .before in omega (arith, start .pre .1, sizes _ (start .pre .0) .image)
 
-cast-k : tie.Need-cast-k
-cast-k c = search needs
-
-block-requires : tie.Need-block-requires
-block-requires c κs = search needs
-
-image-requires : tie.Need-image-requires
-image-requires c κs = search needs
-
 array-borrow-prefix-u : tie.Need-array-borrow-prefix-u
 array-borrow-prefix-u c = scratch-enough longestBlock _ (c .before .block .ensures) (short c)
 
@@ -49,9 +40,6 @@ read-block-requires c κs =
       start .pre .3,
     )
 
-same-length : tie.Need-same-length
-same-length c = search needs
-
 returns : tie.Need-returns
 returns c = c .before .before .before .before .read-block .ensures
 
@@ -59,13 +47,11 @@ pub read-row-spec : {M : Type 1} → statement M
 read-row-spec =
     tie.close
     (tie.spec
-    cast-k
-    block-requires
-    image-requires
+    (λ c. search needs) (λ c κs. search needs) (λ c κs. search needs)
     array-borrow-prefix-u
     slice-aggregate-read-block
     array-borrow-prefix-image
     slice-aggregate-read-block-2
     read-block-requires
-    same-length
+    (λ c. search needs)
     returns)

@@ -18,32 +18,17 @@ start c = c .before .before .before
 open-bits-requires : tie.Need-open-bits-requires
 open-bits-requires c κs = sizes (c .before .before .args .row) (c .before .before .pre .0) .check
 
-unpack-requires : tie.Need-unpack-requires
-unpack-requires c κs = search needs
-
-load-requires : tie.Need-load-requires
-load-requires c κs = search needs
-
-slice-reshare-prefix-register : tie.Need-slice-reshare-prefix-register
-slice-reshare-prefix-register c = search needs
-
 slice-aggregate-register : tie.Need-slice-aggregate-register
 slice-aggregate-register c =
     let unpacked = c .before .before .before .before in
     let at = counted unpacked in
     sym (length-take-le (at .open-bits .result) _ (omega (arith, unpacked .unpack .kept .1 .1 .1 .0, at .open-bits .ensures, start at .pre .1)))
 
-register-requires : tie.Need-register-requires
-register-requires c κs = search needs
-
 lay-row-requires : tie.Need-lay-row-requires
 lay-row-requires c κs =
     let unpacked = c .before .before .before .before .before .before in
     let at = counted unpacked in
     omega (arith, unpacked .unpack .kept .1 .1 .1 .0, at .open-bits .ensures, start at .pre .1, sizes (start at .args .row) (start at .pre .0) .check)
-
-same-length : tie.Need-same-length
-same-length c = search needs
 
 returns : tie.Need-returns
 returns c =
@@ -61,11 +46,9 @@ block-bits-spec =
     tie.close
     (tie.spec
     open-bits-requires
-    unpack-requires
-    load-requires
-    slice-reshare-prefix-register
+    (λ c κs. search needs) (λ c κs. search needs) (λ c. search needs)
     slice-aggregate-register
-    register-requires
+    (λ c κs. search needs)
     lay-row-requires
-    same-length
+    (λ c. search needs)
     returns)

@@ -8,9 +8,6 @@ use Rattle.blocks.specs.Block.{blockOf}
 use Rattle.block_writer.proofs.lay_block.Statement.{statement}
 use Rattle.block_writer.proofs.lay_block.Tie as tie
 
-block-bits-requires : tie.Need-block-bits-requires
-block-bits-requires c κs = search needs
-
 lay-image-requires : tie.Need-lay-image-requires
 lay-image-requires c κs =
     let start = c .before .before .before .before .before .before .before .before .before .before .before in
@@ -21,15 +18,6 @@ lay-image-requires c κs =
       rw (bits .ensures) (all-bytes (blockOf (start .args .row) (start .args .datagram .now))),
       start .pre .4,
     )
-
-same-length : tie.Need-same-length
-same-length c = search needs
-
-same-length-2 : tie.Need-same-length-2
-same-length-2 c = search needs
-
-same-length-3 : tie.Need-same-length-3
-same-length-3 c = search needs
 
 returns : tie.Need-returns
 returns c =
@@ -42,9 +30,7 @@ pub lay-block-spec : {M : Type 1} → statement M
 lay-block-spec =
     tie.close
     (tie.spec
-    block-bits-requires
+    (λ c κs. search needs)
     lay-image-requires
-    same-length
-    same-length-2
-    same-length-3
+    (λ c. search needs) (λ c. search needs) (λ c. search needs)
     returns)

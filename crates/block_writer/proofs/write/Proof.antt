@@ -48,15 +48,6 @@ fits c = omega (arith, c .if2 .left, c .before .bytes-held .ensures)
 size : (c : tie.After-image-length-at) → c .image-length-at .result ≡ imageLength (rowOf (start (c .before .before .before .before) .args .link))
 size c = c .image-length-at .ensures ∙ ap imageLength (found-row _ (placed (c .before .before .before .before) .place-of .ensures))
 
-place-of-requires : tie.Need-place-of-requires
-place-of-requires c κs = search needs
-
-has-row-requires : tie.Need-has-row-requires
-has-row-requires c κs = search needs
-
-refuse-requires : tie.Need-refuse-requires
-refuse-requires c κs = search needs
-
 returns : tie.Need-returns
 returns c =
     let at = c .before .before in
@@ -68,9 +59,6 @@ row-at-requires c κs = inside c
 bytes-held-requires : tie.Need-bytes-held-requires
 bytes-held-requires c κs = sizes (c .row-at .result) (is-good c) .check
 
-refuse-requires-2 : tie.Need-refuse-requires-2
-refuse-requires-2 c κs = search needs
-
 returns-2 : tie.Need-returns-2
 returns-2 c =
     let at = c .before .before in
@@ -78,9 +66,6 @@ returns-2 c =
 
 image-length-at-requires : tie.Need-image-length-at-requires
 image-length-at-requires c κs = inside (c .before .before .before)
-
-refuse-requires-3 : tie.Need-refuse-requires-3
-refuse-requires-3 c κs = search needs
 
 returns-3 : tie.Need-returns-3
 returns-3 c =
@@ -99,12 +84,6 @@ cast-done c =
     let found = c .before .before .before .before .before .before .before .before in
     record { fits = omega (arith, c .before .before .write-row .ensures .0, long-image _ (is-good found) (start (found .before) .args .datagram .now), sizes _ (is-good found) .image) }
 
-done-requires : tie.Need-done-requires
-done-requires c κs = search needs
-
-same-length : tie.Need-same-length
-same-length c = search needs
-
 returns-4 : tie.Need-returns-4
 returns-4 c =
     let at = c .before .before .before .before .before .before in
@@ -119,19 +98,16 @@ pub write-spec : {M : Type 1} → statement M
 write-spec =
     tie.close
     (tie.spec
-    place-of-requires
-    has-row-requires
-    refuse-requires
+    (λ c κs. search needs) (λ c κs. search needs) (λ c κs. search needs)
     returns
     row-at-requires
     bytes-held-requires
-    refuse-requires-2
+    (λ c κs. search needs)
     returns-2
     image-length-at-requires
-    refuse-requires-3
+    (λ c κs. search needs)
     returns-3
     write-row-requires
     cast-done
-    done-requires
-    same-length
+    (λ c κs. search needs) (λ c. search needs)
     returns-4)

@@ -11,15 +11,6 @@ use Rattle.block_writer.proofs.write_row.Tie as tie
 short : (c : tie.After-block2) → c .before .before .before .before .before .args .row .k ≤ longestBlock
 short c = sizes _ (c .before .before .before .before .before .pre .0) .block
 
-cast-k : tie.Need-cast-k
-cast-k c = search needs
-
-block-requires : tie.Need-block-requires
-block-requires c κs = search needs
-
-block-requires-2 : tie.Need-block-requires-2
-block-requires-2 c κs = search needs
-
 array-borrow-prefix-u : tie.Need-array-borrow-prefix-u
 array-borrow-prefix-u c = scratch-enough longestBlock _ (c .before .block .ensures) (short c)
 
@@ -43,9 +34,6 @@ lay-block-requires c κs =
       start .pre .2,
     )
 
-same-length : tie.Need-same-length
-same-length c = search needs
-
 returns : tie.Need-returns
 returns c = c .before .before .before .before .lay-block .ensures
 
@@ -53,13 +41,11 @@ pub write-row-spec : {M : Type 1} → statement M
 write-row-spec =
     tie.close
     (tie.spec
-    cast-k
-    block-requires
-    block-requires-2
+    (λ c. search needs) (λ c κs. search needs) (λ c κs. search needs)
     array-borrow-prefix-u
     slice-aggregate-lay-block
     array-borrow-prefix-v
     slice-aggregate-lay-block-2
     lay-block-requires
-    same-length
+    (λ c. search needs)
     returns)

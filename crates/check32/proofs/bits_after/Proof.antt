@@ -26,15 +26,6 @@ returns c =
     let a = c .before .before .before .args in
     sym (residue-here (a .register) (at .n) (a .k) (omega arith) (sym (at .inv .1) ∙ c .if1 .taken)) ∙ at .inv .2
 
-step-requires : tie.Need-step-requires Inv-loop μ-loop
-step-requires c κs = search needs
-
-add-n : tie.Need-add-n Inv-loop μ-loop
-add-n c = search needs
-
-loop-less : tie.Need-loop-less Inv-loop μ-loop
-loop-less c = search needs
-
 loop-again : tie.Need-loop-again Inv-loop μ-loop
 loop-again c =
     let at = c .before .before .before .loop in
@@ -59,8 +50,6 @@ bits-after-spec =
     μ-loop
     loop-holds
     returns
-    step-requires
-    add-n
-    loop-less
+    (λ c κs. search needs) (λ c. search needs) (λ c. search needs)
     loop-again
     returns-2)

@@ -26,23 +26,8 @@ Inv-loop2 from bits r₀ i₀ i-end r i =
 abbrev μ-loop2 : tie.MeasureT-loop2
 μ-loop2 from bits r₀ i₀ i-end r i = i-end - i
 
-residues-requires : tie.Need-residues-requires Inv-loop μ-loop Inv-loop2 μ-loop2
-residues-requires c κs = search needs
-
 loop-holds : tie.Need-loop-holds Inv-loop μ-loop Inv-loop2 μ-loop2
 loop-holds c = (search needs, search needs, refl)
-
-byte-at-requires : tie.Need-byte-at-requires Inv-loop μ-loop Inv-loop2 μ-loop2
-byte-at-requires c κs = search needs
-
-step-byte-requires : tie.Need-step-byte-requires Inv-loop μ-loop Inv-loop2 μ-loop2
-step-byte-requires c κs = search needs
-
-add-j : tie.Need-add-j Inv-loop μ-loop Inv-loop2 μ-loop2
-add-j c = search needs
-
-loop-less : tie.Need-loop-less Inv-loop μ-loop Inv-loop2 μ-loop2
-loop-less c = search needs
 
 loop-again : tie.Need-loop-again Inv-loop μ-loop Inv-loop2 μ-loop2
 loop-again c =
@@ -50,25 +35,10 @@ loop-again c =
     let bits = c .before .before .before .before .before .before .before .args .bits .now in
     (search needs, search needs, rw (c .step-byte .ensures, c .before .before .byte-at .ensures) (sym (register-byte bits (at .r) (at .j) (omega arith)) ∙ at .inv .2))
 
-mul-i : tie.Need-mul-i Inv-loop μ-loop Inv-loop2 μ-loop2
-mul-i c = search needs
-
 loop2-holds : tie.Need-loop2-holds Inv-loop μ-loop Inv-loop2 μ-loop2
 loop2-holds c =
     let end : c .before .loop .j ≡ length (c .before .before .before .before .args .bits .now) / 8 = omega arith in
     (search needs, search needs, rw end at (c .before .loop .inv .2))
-
-shared-slice-read-step : tie.Need-shared-slice-read-step Inv-loop μ-loop Inv-loop2 μ-loop2
-shared-slice-read-step c = search needs
-
-step-requires : tie.Need-step-requires Inv-loop μ-loop Inv-loop2 μ-loop2
-step-requires c κs = search needs
-
-add-i : tie.Need-add-i Inv-loop μ-loop Inv-loop2 μ-loop2
-add-i c = search needs
-
-loop2-less : tie.Need-loop2-less Inv-loop μ-loop Inv-loop2 μ-loop2
-loop2-less c = search needs
 
 loop2-again : tie.Need-loop2-again Inv-loop μ-loop Inv-loop2 μ-loop2
 loop2-again c =
@@ -89,18 +59,12 @@ register-spec =
     μ-loop
     Inv-loop2
     μ-loop2
-    residues-requires
+    (λ c κs. search needs)
     loop-holds
-    byte-at-requires
-    step-byte-requires
-    add-j
-    loop-less
+    (λ c κs. search needs) (λ c κs. search needs) (λ c. search needs) (λ c. search needs)
     loop-again
-    mul-i
+    (λ c. search needs)
     loop2-holds
-    shared-slice-read-step
-    step-requires
-    add-i
-    loop2-less
+    (λ c. search needs) (λ c κs. search needs) (λ c. search needs) (λ c. search needs)
     loop2-again
     returns)

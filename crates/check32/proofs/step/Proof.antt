@@ -14,9 +14,6 @@ cast : (b : Bool) → boolByte b ≡ byte b
 cast true = refl
 cast false = refl
 
-cast-fed : tie.Need-cast-fed
-cast-fed c = search needs
-
 mul-result : tie.Need-mul-result
 mul-result c = record { fits = omega (arith, fed-low (c .args .r) (omega arith) (c .args .bit) (boolByte (c .args .bit)) (cast (c .args .bit))) }
 
@@ -24,4 +21,4 @@ returns : tie.Need-returns
 returns c = fed-word (c .args .r) (omega arith) (c .args .bit) (boolByte (c .args .bit)) (cast (c .args .bit))
 
 pub step-spec : {M : Type 1} → statement M
-step-spec = tie.close (tie.spec cast-fed mul-result returns)
+step-spec = tie.close (tie.spec (λ c. search needs) mul-result returns)

@@ -5,18 +5,6 @@ use Rattle.check32.proofs.ByteStep.{both-lt, byte-word}
 use Rattle.check32.proofs.step_byte.Statement.{statement}
 use Rattle.check32.proofs.step_byte.Tie as tie
 
-cast-out : tie.Need-cast-out
-cast-out c = search needs
-
-cast-low : tie.Need-cast-low
-cast-low c = search needs
-
-mul-low : tie.Need-mul-low
-mul-low c = search needs
-
-element-copy-out-low : tie.Need-element-copy-out-low
-element-copy-out-low c = search needs
-
 cast-high : tie.Need-cast-high
 cast-high c = record { fits = omega (arith, both-lt (c .before .args .r) (omega arith) (c .before .args .byte) (omega arith)) }
 
@@ -38,10 +26,7 @@ pub step-byte-spec : {M : Type 1} → statement M
 step-byte-spec =
     tie.close
     (tie.spec
-    cast-out
-    cast-low
-    mul-low
-    element-copy-out-low
+    (λ c. search needs) (λ c. search needs) (λ c. search needs) (λ c. search needs)
     cast-high
     add-high
     mul-high

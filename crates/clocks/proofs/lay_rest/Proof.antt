@@ -24,12 +24,6 @@ loop-holds c =
     let p = c .before .before .before .pre in
     (search needs, record { ten = search needs; within = p .1 .0 .0; place = sym (p .1 .0 .1); small-a = p .1 .0 .2; small-b = p .1 .0 .3; laying = start _ _ _ (p .1 .1) })
 
-shared-slice-read-x : tie.Need-shared-slice-read-x Inv-loop μ-loop
-shared-slice-read-x c = search needs
-
-shared-slice-read-y : tie.Need-shared-slice-read-y Inv-loop μ-loop
-shared-slice-read-y c = search needs
-
 mul-flags : tie.Need-mul-flags Inv-loop μ-loop
 mul-flags c =
     let p = c .before .before .before .before .before .before .before .pre .0 in
@@ -69,12 +63,6 @@ next-clock-requires c κs =
     let p = c .before .before .before .before .before .before .before .before .before .before .before .before .before .before .before .pre .0 in
     (place-below p (c .before .before .before .before .before .before .before .before .before .before .before .loop .inv .1), p .few)
 
-add-s : tie.Need-add-s Inv-loop μ-loop
-add-s c = search needs
-
-loop-less : tie.Need-loop-less Inv-loop μ-loop
-loop-less c = search needs
-
 loop-again : tie.Need-loop-again Inv-loop μ-loop
 loop-again c =
     let p = c .before .before .before .before .before .before .before .before .before .before .before .before .before .before .before .before .pre .0 in
@@ -103,8 +91,7 @@ lay-rest-spec =
     Inv-loop
     μ-loop
     loop-holds
-    shared-slice-read-x
-    shared-slice-read-y
+    (λ c. search needs) (λ c. search needs)
     mul-flags
     array-copy-out-flags
     six-requires
@@ -112,8 +99,7 @@ lay-rest-spec =
     next-requires
     next-requires-2
     next-clock-requires
-    add-s
-    loop-less
+    (λ c. search needs) (λ c. search needs)
     loop-again
     end-requires
     same-length

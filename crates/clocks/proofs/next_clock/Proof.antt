@@ -7,12 +7,6 @@ use borrow.Author.Needs.{needs}
 use Rattle.clocks.proofs.next_clock.Statement.{statement}
 use Rattle.clocks.proofs.next_clock.Tie as tie
 
-add-if1 : tie.Need-add-if1
-add-if1 c = search needs
-
-add-result : tie.Need-add-result
-add-result c = search needs
-
 returns : tie.Need-returns
 returns c = let below : c .before .args .c + 1 < c .before .args .period = search needs in sym (mod-eq-of-lt below)
 
@@ -20,4 +14,4 @@ returns-2 : tie.Need-returns-2
 returns-2 c = let end : c .before .args .c + 1 ≡ c .before .args .period = omega arith in rw end (sym (mod-self _))
 
 pub next-clock-spec : {M : Type 1} → statement M
-next-clock-spec = tie.close (tie.spec add-if1 add-result returns returns-2)
+next-clock-spec = tie.close (tie.spec (λ c. search needs) (λ c. search needs) returns returns-2)

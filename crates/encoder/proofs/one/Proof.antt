@@ -14,9 +14,6 @@ use Rattle.encoder.proofs.Number.{agree}
 use Rattle.encoder.proofs.one.Statement.{statement}
 use Rattle.encoder.proofs.one.Tie as tie
 
-feedback-requires : tie.Need-feedback-requires
-feedback-requires c κs = search needs
-
 returns : tie.Need-returns
 unfolding registerOf numberOf fedOn numberOn outputs xor
 returns c =
@@ -25,4 +22,4 @@ returns c =
     (agree (λ r u. bitOr (r * 2 % 2 ^ 32) (bitXor u (byte (feedback (registerOf r))))) (λ r u. fedOn (registerOf r) (isOne u ∷ [])) tt _ _ (p .0) (p .1))
 
 pub one-spec : {M : Type 1} → statement M
-one-spec = tie.close (tie.spec feedback-requires returns)
+one-spec = tie.close (tie.spec (λ c κs. search needs) returns)

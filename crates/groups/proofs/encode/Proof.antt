@@ -15,15 +15,6 @@ Inv-loop u v pattern period tail out₀ limit places count at₀ a₀ b₀ s₀ 
 abbrev μ-loop : tie.MeasureT-loop
 μ-loop u v pattern period tail out₀ limit places count at₀ a₀ b₀ s₀ out at a b s = limit - s
 
-limit-requires : tie.Need-limit-requires Inv-loop μ-loop
-limit-requires c κs = search needs
-
-no-places-requires : tie.Need-no-places-requires Inv-loop μ-loop
-no-places-requires c κs = search needs
-
-slice-aggregate-lay-places : tie.Need-slice-aggregate-lay-places Inv-loop μ-loop
-slice-aggregate-lay-places c = search needs
-
 lay-places-requires : tie.Need-lay-places-requires Inv-loop μ-loop
 unfolding noPlaces
 lay-places-requires c κs =
@@ -46,18 +37,12 @@ loop-holds c =
       group-start (a .u .now) (a .v .now) (a .pattern) (a .period) (a .tail) (a .out .now) (c .before .before .before .before .before .before .before .before .pre .1),
     )
 
-add-loop : tie.Need-add-loop Inv-loop μ-loop
-add-loop c = search needs
-
 put-group-requires : tie.Need-put-group-requires Inv-loop μ-loop
 put-group-requires c κs =
     let p = c .before .before .before .before .before .before .before .before .before .before .pre .0 in
     let l = c .before .loop .inv in
     let fits = c .loop-test .taken in
     (l .1 .small-a, l .1 .small-b, omega (arith, fits, l .0 .limited), omega (arith, fits, l .0 .limited, p .same), p .bits-u, p .bits-v)
-
-slice-aggregate-lay-digits : tie.Need-slice-aggregate-lay-digits Inv-loop μ-loop
-slice-aggregate-lay-digits c = search needs
 
 lay-digits-requires : tie.Need-lay-digits-requires Inv-loop μ-loop
 lay-digits-requires c κs =
@@ -101,14 +86,12 @@ encode-spec =
     (tie.spec
     Inv-loop
     μ-loop
-    limit-requires
-    no-places-requires
-    slice-aggregate-lay-places
+    (λ c κs. search needs) (λ c κs. search needs) (λ c. search needs)
     lay-places-requires
     loop-holds
-    add-loop
+    (λ c. search needs)
     put-group-requires
-    slice-aggregate-lay-digits
+    (λ c. search needs)
     lay-digits-requires
     add-s
     loop-less

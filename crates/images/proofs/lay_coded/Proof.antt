@@ -19,28 +19,10 @@ of-row c =
       tail-is = c .before .before .tail .ensures;
     }
 
-interleave-requires : tie.Need-interleave-requires
-interleave-requires c κs = search needs
-
-pattern-requires : tie.Need-pattern-requires
-pattern-requires c κs = search needs
-
-clocks-requires : tie.Need-clocks-requires
-clocks-requires c κs = search needs
-
-tail-requires : tie.Need-tail-requires
-tail-requires c κs = search needs
-
 encode-requires : tie.Need-encode-requires
 encode-requires c κs =
     let start = c .before .before .before .before .before .before .before .before .before .before .before .before in
     (ready (of-row c), room (of-row c) (start .args .out .now) (start .pre .4))
-
-same-length : tie.Need-same-length
-same-length c = search needs
-
-same-length-2 : tie.Need-same-length-2
-same-length-2 c = search needs
 
 returns : tie.Need-returns
 returns c = laid (of-row (c .before .before .before)) _ _ _ (c .before .before .encode .ensures) .lays
@@ -49,11 +31,7 @@ pub lay-coded-spec : {M : Type 1} → statement M
 lay-coded-spec =
     tie.close
     (tie.spec
-    interleave-requires
-    pattern-requires
-    clocks-requires
-    tail-requires
+    (λ c κs. search needs) (λ c κs. search needs) (λ c κs. search needs) (λ c κs. search needs)
     encode-requires
-    same-length
-    same-length-2
+    (λ c. search needs) (λ c. search needs)
     returns)

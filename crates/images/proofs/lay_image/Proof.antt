@@ -6,24 +6,12 @@ use Rattle.images.proofs.Composed.{image-composed}
 use Rattle.images.proofs.lay_image.Statement.{statement}
 use Rattle.images.proofs.lay_image.Tie as tie
 
-lay-coded-requires : tie.Need-lay-coded-requires
-lay-coded-requires c κs = search needs
-
-load-requires : tie.Need-load-requires
-load-requires c κs = search needs
-
 scramble-requires : tie.Need-scramble-requires
 scramble-requires c κs =
     let start = c .before .before .before .before .before .before .before .before .before .before .before .before in
     let coded = c .before .before .before .before .before .before .lay-coded in
     let long = length-coded-bytes (start .args .row) (start .pre .0) (start .args .u .now) (start .pre .1) in
     (omega (arith, c .before .load .ensures), omega (arith, coded .ensures .0, long, coded .kept .1 .1 .1 .0, start .pre .4))
-
-same-length : tie.Need-same-length
-same-length c = search needs
-
-same-length-2 : tie.Need-same-length-2
-same-length-2 c = search needs
 
 returns : tie.Need-returns
 returns c =
@@ -35,4 +23,4 @@ returns c =
 pub lay-image-spec : {M : Type 1} → statement M
 lay-image-spec =
     tie.close
-    (tie.spec lay-coded-requires load-requires scramble-requires same-length same-length-2 returns)
+    (tie.spec (λ c κs. search needs) (λ c κs. search needs) scramble-requires (λ c. search needs) (λ c. search needs) returns)

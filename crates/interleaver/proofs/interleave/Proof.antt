@@ -19,9 +19,6 @@ Inv-loop row u v₀ half i₀ v i = (i ≤ row .k1 / 2) × Rows row u v₀ v i
 abbrev μ-loop : tie.MeasureT-loop
 μ-loop row u v₀ half i₀ v i = row .k1 / 2 - i
 
-cast-half : tie.Need-cast-half Inv-loop μ-loop
-cast-half c = search needs
-
 loop-holds : tie.Need-loop-holds Inv-loop μ-loop
 loop-holds c =
     let st = c .before .before .before in
@@ -31,12 +28,6 @@ lay-row-requires : tie.Need-lay-row-requires Inv-loop μ-loop
 lay-row-requires c κs =
     let st = c .before .before .before .before .before .before in
     (st .pre .0, search needs, st .pre .1, c .before .before .loop .inv .1 .long ∙ st .pre .2, st .pre .3)
-
-add-i : tie.Need-add-i Inv-loop μ-loop
-add-i c = search needs
-
-loop-less : tie.Need-loop-less Inv-loop μ-loop
-loop-less c = search needs
 
 loop-again : tie.Need-loop-again Inv-loop μ-loop
 loop-again c =
@@ -62,11 +53,10 @@ interleave-spec =
     (tie.spec
     Inv-loop
     μ-loop
-    cast-half
+    (λ c. search needs)
     loop-holds
     lay-row-requires
-    add-i
-    loop-less
+    (λ c. search needs) (λ c. search needs)
     loop-again
     same-length
     returns)

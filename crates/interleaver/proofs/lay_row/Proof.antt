@@ -29,9 +29,6 @@ held c n = search needs
 small : (c : tie.After-primes Inv-loop μ-loop) (n : ℕ) → getD (c .before .before .before .args .row .primes) n 0 < 2 ^ 32
 small c n = omega (arith, held c n)
 
-cast-k2 : tie.Need-cast-k2 Inv-loop μ-loop
-cast-k2 c = search needs
-
 mul-t : tie.Need-mul-t Inv-loop μ-loop
 mul-t c =
     let st = c .before .before .before .before in
@@ -42,26 +39,8 @@ add-t c =
     let st = c .before .before .before .before in
     record { fits = omega (arith, row-small (st .args .row) (st .pre .0) (st .args .i) (st .pre .1)) }
 
-cast-t : tie.Need-cast-t Inv-loop μ-loop
-cast-t c = search needs
-
 rem-t : tie.Need-rem-t Inv-loop μ-loop
 rem-t c = sizes (c .before .before .before .before .before .args .row) (c .before .before .before .before .before .pre .0) .half
-
-add-q : tie.Need-add-q Inv-loop μ-loop
-add-q c = search needs
-
-sub-p : tie.Need-sub-p Inv-loop μ-loop
-sub-p c = search needs
-
-mul-p : tie.Need-mul-p Inv-loop μ-loop
-mul-p c = search needs
-
-array-read-p : tie.Need-array-read-p Inv-loop μ-loop
-array-read-p c = search needs
-
-cast-p : tie.Need-cast-p Inv-loop μ-loop
-cast-p c = search needs
 
 loop-holds : tie.Need-loop-holds Inv-loop μ-loop
 loop-holds c =
@@ -141,12 +120,6 @@ slice-write-v-2 c =
     let at = c .before .before .before .before .before .loop in
     simp length-set (pairs-room (st .args .row) (st .args .u .now) (st .pre .0) (st .pre .2) (st .pre .4) (st .args .i) (at .j) (omega arith) (at .inv .1))
 
-add-j : tie.Need-add-j Inv-loop μ-loop
-add-j c = search needs
-
-loop-less : tie.Need-loop-less Inv-loop μ-loop
-loop-less c = search needs
-
 loop-again : tie.Need-loop-again Inv-loop μ-loop
 loop-again c =
     let st = c .before .before .before .before .before .before .before .before .before .before .before in
@@ -167,16 +140,12 @@ lay-row-spec =
     (tie.spec
     Inv-loop
     μ-loop
-    cast-k2
+    (λ c. search needs)
     mul-t
     add-t
-    cast-t
+    (λ c. search needs)
     rem-t
-    add-q
-    sub-p
-    mul-p
-    array-read-p
-    cast-p
+    (λ c. search needs) (λ c. search needs) (λ c. search needs) (λ c. search needs) (λ c. search needs)
     loop-holds
     mul-s
     add-s
@@ -190,8 +159,7 @@ lay-row-spec =
     shared-slice-read-v-2
     add-v
     slice-write-v-2
-    add-j
-    loop-less
+    (λ c. search needs) (λ c. search needs)
     loop-again
     same-length
     returns)

@@ -21,23 +21,11 @@ module _ (row : Row) (good : T (goodRow row)) (t : ℕ) (inside : t < row .k1 / 
   cell : (x : ℕ) → x % row .k2 * (row .k1 / 2) + t < longestBlock
   cell x = omega (arith, pairs, mul-comm (row .k1 / 2) (row .k2), digits-lt {q = x % row .k2} {m = row .k2} {r = t} {c = row .k1 / 2} (mod-lt x (sizes row good .width)) inside)
 
-cast-half : tie.Need-cast-half
-cast-half c = search needs
-
 mul-c : tie.Need-mul-c
 mul-c c = let st = c .before in record { fits = omega (arith, product (st .args .row) (st .pre .0) (st .args .t) (st .pre .1) (st .args .p) (st .args .j) (st .pre .2) (st .pre .3)) }
 
-mul-c-2 : tie.Need-mul-c-2
-mul-c-2 c = search needs
-
 add-c : tie.Need-add-c
 add-c c = let st = c .before in record { fits = omega (arith, product (st .args .row) (st .pre .0) (st .args .t) (st .pre .1) (st .args .p) (st .args .j) (st .pre .2) (st .pre .3), st .pre .4) }
-
-cast-c : tie.Need-cast-c
-cast-c c = search needs
-
-rem-c : tie.Need-rem-c
-rem-c c = search needs
 
 mul-result : tie.Need-mul-result
 mul-result c = let st = c .before .before in record { fits = omega (arith, cell (st .args .row) (st .pre .0) (st .args .t) (st .pre .1) (st .args .p * st .args .j + 21 * st .args .m)) }
@@ -51,25 +39,17 @@ add-result-2 c = let st = c .before .before in record { fits = omega (arith, cel
 mul-result-2 : tie.Need-mul-result-2
 mul-result-2 c = let st = c .before .before in record { fits = omega (arith, cell (st .args .row) (st .pre .0) (st .args .t) (st .pre .1) (st .args .p * st .args .j + 21 * st .args .m)) }
 
-sub-result : tie.Need-sub-result
-sub-result c = search needs
-
-returns : tie.Need-returns
-returns c = search needs
-
 pub place-spec : {M : Type 1} → statement M
 place-spec =
     tie.close
     (tie.spec
-    cast-half
+    (λ c. search needs)
     mul-c
-    mul-c-2
+    (λ c. search needs)
     add-c
-    cast-c
-    rem-c
+    (λ c. search needs) (λ c. search needs)
     mul-result
     add-result
     add-result-2
     mul-result-2
-    sub-result
-    returns)
+    (λ c. search needs) (λ c. search needs))

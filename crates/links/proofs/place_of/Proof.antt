@@ -22,24 +22,12 @@ loop-holds : tie.Need-loop-holds Inv-loop μ-loop
 unfolding rows
 loop-holds c = (search needs, refl, zero-add (place (c .args .link)))
 
-mul-if1 : tie.Need-mul-if1 Inv-loop μ-loop
-mul-if1 c = search needs
-
-index-1-if1 : tie.Need-index-1-if1 Inv-loop μ-loop
-index-1-if1 c = search needs
-
-index-2-if1 : tie.Need-index-2-if1 Inv-loop μ-loop
-index-2-if1 c = search needs
-
 returns : tie.Need-returns Inv-loop μ-loop
 unfolding rows
 returns c =
     let at = c .before .before .before .loop in
     let link = c .before .before .before .before .args .link in
     omega (arith, at .inv .2, place-here rows link (at .i) (omega (arith, row-count)) (sym (link-is (at .i) (omega arith)) ∙ c .if1 .taken))
-
-add-i : tie.Need-add-i Inv-loop μ-loop
-add-i c = search needs
 
 loop-less : tie.Need-loop-less Inv-loop μ-loop
 loop-less c = search (needs, row-count)
@@ -61,11 +49,9 @@ place-of-spec =
     Inv-loop
     μ-loop
     loop-holds
-    mul-if1
-    index-1-if1
-    index-2-if1
+    (λ c. search needs) (λ c. search needs) (λ c. search needs)
     returns
-    add-i
+    (λ c. search needs)
     loop-less
     loop-again
     returns-2)

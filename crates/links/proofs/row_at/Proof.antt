@@ -12,29 +12,11 @@ mul-row c = search (needs, row-count)
 array-copy-out-row : tie.Need-array-copy-out-row
 array-copy-out-row c = search (needs, row-count)
 
-array-read-t32 : tie.Need-array-read-t32
-array-read-t32 c = search needs
-
-array-read-t35 : tie.Need-array-read-t35
-array-read-t35 c = search needs
-
-array-read-t38 : tie.Need-array-read-t38
-array-read-t38 c = search needs
-
-array-read-t41 : tie.Need-array-read-t41
-array-read-t41 c = search needs
-
 mul-t26 : tie.Need-mul-t26
 mul-t26 c = search (needs, row-count)
 
 array-copy-out-t67 : tie.Need-array-copy-out-t67
 array-copy-out-t67 c = search (needs, row-count)
-
-array-read-t70 : tie.Need-array-read-t70
-array-read-t70 c = search needs
-
-array-read-t73 : tie.Need-array-read-t73
-array-read-t73 c = search needs
 
 returns : tie.Need-returns
 unfolding rows
@@ -46,12 +28,8 @@ row-at-spec =
     (tie.spec
     mul-row
     array-copy-out-row
-    array-read-t32
-    array-read-t35
-    array-read-t38
-    array-read-t41
+    (λ c. search needs) (λ c. search needs) (λ c. search needs) (λ c. search needs)
     mul-t26
     array-copy-out-t67
-    array-read-t70
-    array-read-t73
+    (λ c. search needs) (λ c. search needs)
     returns)

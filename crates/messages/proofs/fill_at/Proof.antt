@@ -5,21 +5,12 @@ use Rattle.messages.proofs.Ways.{fill-only, fill-broken}
 use Rattle.messages.proofs.fill_at.Statement.{statement}
 use Rattle.messages.proofs.fill_at.Tie as tie
 
-only-fill-requires : tie.Need-only-fill-requires
-only-fill-requires c κs = search needs
-
-finished-requires : tie.Need-finished-requires
-finished-requires c κs = search needs
-
 returns : tie.Need-returns
 returns c = c .finished .ensures ∙ sym (fill-only (c .before .before .before .before .args .left .now) (sym (c .before .before .only-fill .ensures) ∙ c .before .if1 .taken))
-
-refused-requires : tie.Need-refused-requires
-refused-requires c κs = search needs
 
 returns-2 : tie.Need-returns-2
 returns-2 c = c .refused .ensures ∙ sym (fill-broken (c .before .before .before .before .args .left .now) (sym (c .before .before .only-fill .ensures) ∙ c .before .if1 .left))
 
 pub fill-at-spec : {M : Type 1} → statement M
 fill-at-spec =
-    tie.close (tie.spec only-fill-requires finished-requires returns refused-requires returns-2)
+    tie.close (tie.spec (λ c κs. search needs) (λ c κs. search needs) returns (λ c κs. search needs) returns-2)

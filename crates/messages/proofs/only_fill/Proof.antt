@@ -18,22 +18,10 @@ abbrev μ-loop : tie.MeasureT-loop
 loop-holds : tie.Need-loop-holds Inv-loop μ-loop
 loop-holds c = (search needs, search needs, refl)
 
-shared-slice-read-is-fill : tie.Need-shared-slice-read-is-fill Inv-loop μ-loop
-shared-slice-read-is-fill c = search needs
-
-is-fill-requires : tie.Need-is-fill-requires Inv-loop μ-loop
-is-fill-requires c κs = search needs
-
 returns : tie.Need-returns Inv-loop μ-loop
 returns c =
     let at = c .before .before .before .before .loop in
     sym (at .inv .2 ∙ every-stops isFill 0 _ (at .i) (search needs) (fails (c .before .is-fill .ensures) (c .if1 .taken)))
-
-add-i : tie.Need-add-i Inv-loop μ-loop
-add-i c = search needs
-
-loop-less : tie.Need-loop-less Inv-loop μ-loop
-loop-less c = search needs
 
 loop-again : tie.Need-loop-again Inv-loop μ-loop
 loop-again c =
@@ -50,10 +38,8 @@ only-fill-spec =
     Inv-loop
     μ-loop
     loop-holds
-    shared-slice-read-is-fill
-    is-fill-requires
+    (λ c. search needs) (λ c κs. search needs)
     returns
-    add-i
-    loop-less
+    (λ c. search needs) (λ c. search needs)
     loop-again
     returns-2)

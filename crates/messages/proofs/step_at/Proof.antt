@@ -6,30 +6,15 @@ use Rattle.messages.proofs.Ways.{step-end, step-fill, step-begins}
 use Rattle.messages.proofs.step_at.Statement.{statement}
 use Rattle.messages.proofs.step_at.Tie as tie
 
-finished-requires : tie.Need-finished-requires
-finished-requires c κs = search needs
-
 returns : tie.Need-returns
 returns c =
     let a = c .before .before .before .args in
     c .finished .ensures ∙ sym (step-end (a .offset) (a .left .now) (omega arith))
 
-shared-slice-read-is-fill : tie.Need-shared-slice-read-is-fill
-shared-slice-read-is-fill c = search needs
-
-is-fill-requires : tie.Need-is-fill-requires
-is-fill-requires c κs = search needs
-
-fill-at-requires : tie.Need-fill-at-requires
-fill-at-requires c κs = search needs
-
 returns-2 : tie.Need-returns-2
 returns-2 c =
     let a = c .before .before .before .before .before .before .args in
     c .fill-at .ensures ∙ sym (step-fill (a .offset) (a .left .now) (omega arith) (sym (c .before .before .is-fill .ensures) ∙ c .before .if2 .taken))
-
-message-at-requires : tie.Need-message-at-requires
-message-at-requires c κs = search needs
 
 returns-3 : tie.Need-returns-3
 returns-3 c =
@@ -40,11 +25,9 @@ pub step-at-spec : {M : Type 1} → statement M
 step-at-spec =
     tie.close
     (tie.spec
-    finished-requires
+    (λ c κs. search needs)
     returns
-    shared-slice-read-is-fill
-    is-fill-requires
-    fill-at-requires
+    (λ c. search needs) (λ c κs. search needs) (λ c κs. search needs)
     returns-2
-    message-at-requires
+    (λ c κs. search needs)
     returns-3)

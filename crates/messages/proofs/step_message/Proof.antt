@@ -8,25 +8,10 @@ use Rattle.messages.proofs.Ways.{step-past, step-within}
 use Rattle.messages.proofs.step_message.Statement.{statement}
 use Rattle.messages.proofs.step_message.Tie as tie
 
-refused-requires : tie.Need-refused-requires
-refused-requires c κs = search needs
-
 returns : tie.Need-returns
 returns c =
     let a = c .before .before .before .args in
     c .refused .ensures ∙ sym (step-past (a .datagram .now) (a .position) (omega arith))
-
-sub-step-at : tie.Need-sub-step-at
-sub-step-at c = search needs
-
-part-step-at-start : tie.Need-part-step-at-start
-part-step-at-start c = search needs
-
-part-step-at-end : tie.Need-part-step-at-end
-part-step-at-end c = search needs
-
-step-at-requires : tie.Need-step-at-requires
-step-at-requires c κs = search needs
 
 returns-2 : tie.Need-returns-2
 returns-2 c =
@@ -37,10 +22,7 @@ pub step-message-spec : {M : Type 1} → statement M
 step-message-spec =
     tie.close
     (tie.spec
-    refused-requires
+    (λ c κs. search needs)
     returns
-    sub-step-at
-    part-step-at-start
-    part-step-at-end
-    step-at-requires
+    (λ c. search needs) (λ c. search needs) (λ c. search needs) (λ c κs. search needs)
     returns-2)

@@ -20,9 +20,6 @@ Inv-loop line row₀ i₀ row i = (i ≤ 32) × (length line ≡ 32) × (length 
 abbrev μ-loop : tie.MeasureT-loop
 μ-loop line row₀ i₀ row i = 32 - i
 
-read-requires : tie.Need-read-requires Inv-loop μ-loop
-read-requires c κs = search needs
-
 returns : tie.Need-returns Inv-loop μ-loop
 returns c =
     let line = c .before .before .before .args .line .now in
@@ -32,21 +29,6 @@ returns c =
 loop-holds : tie.Need-loop-holds Inv-loop μ-loop
 loop-holds c = (search needs, search needs, refl, start _ 0 (map bitOf (c .before .before .args .line .now)) (simp length-map (omega arith)))
 
-shared-slice-read-bit-of : tie.Need-shared-slice-read-bit-of Inv-loop μ-loop
-shared-slice-read-bit-of c = search needs
-
-bit-of-requires : tie.Need-bit-of-requires Inv-loop μ-loop
-bit-of-requires c κs = search needs
-
-array-write-row : tie.Need-array-write-row Inv-loop μ-loop
-array-write-row c = search needs
-
-add-i : tie.Need-add-i Inv-loop μ-loop
-add-i c = search needs
-
-loop-less : tie.Need-loop-less Inv-loop μ-loop
-loop-less c = search needs
-
 loop-again : tie.Need-loop-again Inv-loop μ-loop
 loop-again c =
     let at = c .before .before .before .loop in
@@ -55,9 +37,6 @@ loop-again c =
 
 slice-aggregate-read : tie.Need-slice-aggregate-read Inv-loop μ-loop
 slice-aggregate-read c = sym (c .before .before .loop .inv .3 .long ∙ c .before .before .loop .inv .2)
-
-read-requires-2 : tie.Need-read-requires-2 Inv-loop μ-loop
-read-requires-2 c κs = search needs
 
 returns-2 : tie.Need-returns-2 Inv-loop μ-loop
 returns-2 c =
@@ -72,15 +51,11 @@ read-characters-spec =
     (tie.spec
     Inv-loop
     μ-loop
-    read-requires
+    (λ c κs. search needs)
     returns
     loop-holds
-    shared-slice-read-bit-of
-    bit-of-requires
-    array-write-row
-    add-i
-    loop-less
+    (λ c. search needs) (λ c κs. search needs) (λ c. search needs) (λ c. search needs) (λ c. search needs)
     loop-again
     slice-aggregate-read
-    read-requires-2
+    (λ c κs. search needs)
     returns-2)

@@ -21,16 +21,10 @@ unfolding textOf
 printed input e w =
     ap (λ (x : Word). padded (linesOf x)) (w ∙ ap (λ (n : ℕ). readWord (map bitOf (take n input))) e ∙ ap (λ (l : List ℕ). readWord (map bitOf l)) (line-front input))
 
-line-end-requires : tie.Need-line-end-requires
-line-end-requires c κs = search needs
-
 slice-aggregate-read-characters : tie.Need-slice-aggregate-read-characters
 slice-aggregate-read-characters c =
     let input = c .before .before .before .args .input .now in
     sym (length-take-le (c .before .line-end .result) input (omega (arith, c .before .line-end .ensures, line-within input)))
-
-read-characters-requires : tie.Need-read-characters-requires
-read-characters-requires c κs = search needs
 
 answer-lines-requires : tie.Need-answer-lines-requires
 answer-lines-requires c κs =
@@ -58,9 +52,9 @@ pub text-of-spec : {M : Type 1} → statement M
 text-of-spec =
     tie.close
     (tie.spec
-    line-end-requires
+    (λ c κs. search needs)
     slice-aggregate-read-characters
-    read-characters-requires
+    (λ c κs. search needs)
     answer-lines-requires
     returns
     refusal-lines-requires

@@ -5,15 +5,6 @@ use borrow.Author.Needs.{needs}
 use Rattle.received.proofs.receive.Statement.{statement}
 use Rattle.received.proofs.receive.Tie as tie
 
-copy-requires : tie.Need-copy-requires
-copy-requires c κs = search needs
-
-load-requires : tie.Need-load-requires
-load-requires c κs = search needs
-
-scramble-requires : tie.Need-scramble-requires
-scramble-requires c κs = search needs
-
 take-x-requires : tie.Need-take-x-requires
 take-x-requires c κs =
     let start = c .before .before .before .before .before .before .before .before .before .before .before .before .before .before in
@@ -23,12 +14,6 @@ take-x-requires c κs =
       c .before .before .before .before .scramble .kept .1 .1 .0 ∙ c .before .before .before .before .before .before .before .before .before .copy .kept .1 .0 ∙ start .pre .4,
       plain-bits (a .row) (a .came .now) _ _ _ _ (start .pre .3) (start .pre .2) (c .before .before .before .before .before .before .before .before .before .copy .ensures) (c .before .before .before .before .before .before .load .ensures) (c .before .before .before .before .scramble .ensures),
     )
-
-same-length : tie.Need-same-length
-same-length c = search needs
-
-same-length-2 : tie.Need-same-length-2
-same-length-2 c = search needs
 
 returns : tie.Need-returns
 returns c =
@@ -40,10 +25,7 @@ pub receive-spec : {M : Type 1} → statement M
 receive-spec =
     tie.close
     (tie.spec
-    copy-requires
-    load-requires
-    scramble-requires
+    (λ c κs. search needs) (λ c κs. search needs) (λ c κs. search needs)
     take-x-requires
-    same-length
-    same-length-2
+    (λ c. search needs) (λ c. search needs)
     returns)

@@ -17,15 +17,6 @@ Inv-loop coded u₀ name sums clocks at₀ clock₀ s₀ s-end u at clock s = Ta
 abbrev μ-loop : tie.MeasureT-loop
 μ-loop coded u₀ name sums clocks at₀ clock₀ s₀ s-end u at clock s = s-end - s
 
-pattern-requires : tie.Need-pattern-requires Inv-loop μ-loop
-pattern-requires c κs = search needs
-
-totals-requires : tie.Need-totals-requires Inv-loop μ-loop
-totals-requires c κs = search needs
-
-clocks-requires : tie.Need-clocks-requires Inv-loop μ-loop
-clocks-requires c κs = search needs
-
 -- what a clock may read and write
 here : (c : tie.After-shared-slice-known2 Inv-loop μ-loop)
     → AtClock (patternOf (c .before .before .before .before .before .before .before .before .args .row .pattern)) (c .before .before .before .before .before .before .before .before .args .coded .now) (c .before .before .loop .u) (c .before .before .before .before .totals .result) (c .before .before .loop .at) (c .before .before .loop .clock) (c .before .before .loop .s)
@@ -58,12 +49,6 @@ add-at c = let at = here c in search needs
 add-clock : tie.Need-add-clock Inv-loop μ-loop
 add-clock c = let at = here c in search needs
 
-add-s : tie.Need-add-s Inv-loop μ-loop
-add-s c = search needs
-
-loop-less : tie.Need-loop-less Inv-loop μ-loop
-loop-less c = search needs
-
 loop-again : tie.Need-loop-again Inv-loop μ-loop
 loop-again c =
     let at = c .before .before .before .loop in
@@ -92,9 +77,7 @@ take-x-spec =
     (tie.spec
     Inv-loop
     μ-loop
-    pattern-requires
-    totals-requires
-    clocks-requires
+    (λ c κs. search needs) (λ c κs. search needs) (λ c κs. search needs)
     loop-holds
     shared-slice-read-u
     slice-write-u
@@ -102,8 +85,7 @@ take-x-spec =
     array-read-at
     add-at
     add-clock
-    add-s
-    loop-less
+    (λ c. search needs) (λ c. search needs)
     loop-again
     same-length
     returns)

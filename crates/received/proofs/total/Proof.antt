@@ -20,22 +20,10 @@ abbrev μ-loop : tie.MeasureT-loop
 loop-holds : tie.Need-loop-holds Inv-loop μ-loop
 loop-holds c = (search needs, search needs, omega arith)
 
-array-read-sum : tie.Need-array-read-sum Inv-loop μ-loop
-array-read-sum c = search needs
-
-cast-sum : tie.Need-cast-sum Inv-loop μ-loop
-cast-sum c = search needs
-
 add-sum : tie.Need-add-sum Inv-loop μ-loop
 add-sum c =
     let low : Fits w8 (getD (c .before .before .args .t1) (c .before .loop .i) 0) = search needs in
     record { fits = omega arith }
-
-add-i : tie.Need-add-i Inv-loop μ-loop
-add-i c = search needs
-
-loop-less : tie.Need-loop-less Inv-loop μ-loop
-loop-less c = search needs
 
 loop-again : tie.Need-loop-again Inv-loop μ-loop
 loop-again c =
@@ -59,10 +47,8 @@ total-spec =
     Inv-loop
     μ-loop
     loop-holds
-    array-read-sum
-    cast-sum
+    (λ c. search needs) (λ c. search needs)
     add-sum
-    add-i
-    loop-less
+    (λ c. search needs) (λ c. search needs)
     loop-again
     returns)

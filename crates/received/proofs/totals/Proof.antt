@@ -24,27 +24,6 @@ loop-holds c =
     let ten : length pattern ≡ 10 = search needs in
     (search needs, start _ 0 _ (omega (arith, length-map pattern total)))
 
-mul-total : tie.Need-mul-total Inv-loop μ-loop
-mul-total c = search needs
-
-array-copy-out-total : tie.Need-array-copy-out-total Inv-loop μ-loop
-array-copy-out-total c = search needs
-
-total-requires : tie.Need-total-requires Inv-loop μ-loop
-total-requires c κs = search needs
-
-mul-sums : tie.Need-mul-sums Inv-loop μ-loop
-mul-sums c = search needs
-
-array-write-sums : tie.Need-array-write-sums Inv-loop μ-loop
-array-write-sums c = search needs
-
-add-c : tie.Need-add-c Inv-loop μ-loop
-add-c c = search needs
-
-loop-less : tie.Need-loop-less Inv-loop μ-loop
-loop-less c = search needs
-
 loop-again : tie.Need-loop-again Inv-loop μ-loop
 loop-again c =
     let at = c .before .before .before .loop in
@@ -66,12 +45,6 @@ totals-spec =
     Inv-loop
     μ-loop
     loop-holds
-    mul-total
-    array-copy-out-total
-    total-requires
-    mul-sums
-    array-write-sums
-    add-c
-    loop-less
+    (λ c. search needs) (λ c. search needs) (λ c κs. search needs) (λ c. search needs) (λ c. search needs) (λ c. search needs) (λ c. search needs)
     loop-again
     returns)

@@ -4,16 +4,10 @@ use Rattle.datagrams.proofs.Packed.{bytes-known}
 use Rattle.ties.proofs.write_slot.Statement.{statement}
 use Rattle.ties.proofs.write_slot.Tie as tie
 
-decklewren-write-slot-requires : tie.Need-decklewren-write-slot-requires
-decklewren-write-slot-requires c κs = search needs
-
-same-length : tie.Need-same-length
-same-length c = search needs
-
 returns : tie.Need-returns
 returns c =
     let known = c .before .before .before .before .before in
     (c .before .before .decklewren-write-slot .ensures, bytes-known (known .before .args .datagram .now) (λ i. known .shared-slice-known .given i .fits))
 
 pub write-slot-spec : {M : Type 1} → statement M
-write-slot-spec = tie.close (tie.spec decklewren-write-slot-requires same-length returns)
+write-slot-spec = tie.close (tie.spec (λ c κs. search needs) (λ c. search needs) returns)

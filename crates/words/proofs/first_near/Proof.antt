@@ -21,15 +21,6 @@ abbrev μ-loop : tie.MeasureT-loop
 loop-holds : tie.Need-loop-holds Inv-loop μ-loop
 loop-holds c = (search needs, refl)
 
-word-of-requires : tie.Need-word-of-requires Inv-loop μ-loop
-word-of-requires c κs = search needs
-
-distance-requires : tie.Need-distance-requires Inv-loop μ-loop
-distance-requires c κs = search needs
-
-find-requires : tie.Need-find-requires Inv-loop μ-loop
-find-requires c κs = search needs
-
 returns : tie.Need-returns Inv-loop μ-loop
 returns c =
     let at = c .before .before .before .before .before .loop in
@@ -37,21 +28,12 @@ returns c =
     let wrong = wrong-is (at .number) (a .received) (c .before .before .before .word-of .ensures) (c .before .before .distance .ensures) in
     c .find .ensures ∙ ap (found (at .number)) wrong ∙ sym (near-here (a .received) (at .number) (omega arith) (rw wrong at (c .before .if1 .taken))) ∙ at .inv .1
 
-add-number : tie.Need-add-number Inv-loop μ-loop
-add-number c = search needs
-
-loop-less : tie.Need-loop-less Inv-loop μ-loop
-loop-less c = search needs
-
 loop-again : tie.Need-loop-again Inv-loop μ-loop
 loop-again c =
     let at = c .before .before .before .before .loop in
     let a = c .before .before .before .before .before .args in
     let wrong = wrong-is (at .number) (a .received) (c .before .before .word-of .ensures) (c .before .distance .ensures) in
     (search needs, sym (near-later (a .received) (at .number) (omega arith) (rw wrong at (c .if1 .left))) ∙ at .inv .1)
-
-refuse-requires : tie.Need-refuse-requires Inv-loop μ-loop
-refuse-requires c κs = search needs
 
 returns-2 : tie.Need-returns-2 Inv-loop μ-loop
 returns-2 c =
@@ -65,12 +47,9 @@ first-near-spec =
     Inv-loop
     μ-loop
     loop-holds
-    word-of-requires
-    distance-requires
-    find-requires
+    (λ c κs. search needs) (λ c κs. search needs) (λ c κs. search needs)
     returns
-    add-number
-    loop-less
+    (λ c. search needs) (λ c. search needs)
     loop-again
-    refuse-requires
+    (λ c κs. search needs)
     returns-2)

@@ -23,17 +23,8 @@ long c = equal (length (row (c .before))) 32 (c .if1 .left)
 all : (c : tie.Else2) → allBits (row (c .before .before)) ≡ true
 all c = holds (c .before .before .all-bits .ensures) (c .if2 .left)
 
-all-bits-requires : tie.Need-all-bits-requires
-all-bits-requires c κs = search needs
-
-refuse-requires : tie.Need-refuse-requires
-refuse-requires c κs = search needs
-
 returns : tie.Need-returns
 returns c = let at = c .before .before in c .refuse .ensures ∙ sym (read-length (row at) (unequal (length (row at)) 32 (c .before .if1 .taken)))
-
-refuse-requires-2 : tie.Need-refuse-requires-2
-refuse-requires-2 c κs = search needs
 
 returns-2 : tie.Need-returns-2
 returns-2 c =
@@ -42,9 +33,6 @@ returns-2 c =
 
 number-of-requires : tie.Need-number-of-requires
 number-of-requires c κs = omega (arith, long (c .before))
-
-first-near-requires : tie.Need-first-near-requires
-first-near-requires c κs = search needs
 
 returns-3 : tie.Need-returns-3
 returns-3 c =
@@ -57,11 +45,10 @@ pub read-spec : {M : Type 1} → statement M
 read-spec =
     tie.close
     (tie.spec
-    all-bits-requires
-    refuse-requires
+    (λ c κs. search needs) (λ c κs. search needs)
     returns
-    refuse-requires-2
+    (λ c κs. search needs)
     returns-2
     number-of-requires
-    first-near-requires
+    (λ c κs. search needs)
     returns-3)

@@ -20,27 +20,6 @@ loop-holds : tie.Need-loop-holds Inv-loop μ-loop
 unfolding generator
 loop-holds c = (search needs, refl, rows-all (c .args .number))
 
-sub-if1 : tie.Need-sub-if1 Inv-loop μ-loop
-sub-if1 c = search needs
-
-cast-if1 : tie.Need-cast-if1 Inv-loop μ-loop
-cast-if1 c = search needs
-
-shr-if1 : tie.Need-shr-if1 Inv-loop μ-loop
-shr-if1 c = search needs
-
-mul-word : tie.Need-mul-word Inv-loop μ-loop
-mul-word c = search needs
-
-array-read-word : tie.Need-array-read-word Inv-loop μ-loop
-array-read-word c = search needs
-
-add-d : tie.Need-add-d Inv-loop μ-loop
-add-d c = search needs
-
-loop-less : tie.Need-loop-less Inv-loop μ-loop
-loop-less c = search needs
-
 loop-again : tie.Need-loop-again Inv-loop μ-loop
 unfolding generator
 loop-again c =
@@ -65,12 +44,6 @@ word-of-spec =
     Inv-loop
     μ-loop
     loop-holds
-    sub-if1
-    cast-if1
-    shr-if1
-    mul-word
-    array-read-word
-    add-d
-    loop-less
+    (λ c. search needs) (λ c. search needs) (λ c. search needs) (λ c. search needs) (λ c. search needs) (λ c. search needs) (λ c. search needs)
     loop-again
     returns)

@@ -16,33 +16,15 @@ use Rattle.words.proofs.Calls.{write-high, write-short, write-done, len
 use Rattle.words.proofs.write.Statement.{statement}
 use Rattle.words.proofs.write.Tie as tie
 
-refuse-requires : tie.Need-refuse-requires
-refuse-requires c κs = search needs
-
 returns : tie.Need-returns
 returns c =
     let a = c .before .before .before .args in
     refuses (write-high (a .number) (length (a .out .now)) (omega arith)) (c .refuse .ensures)
 
-refuse-requires-2 : tie.Need-refuse-requires-2
-refuse-requires-2 c κs = search needs
-
 returns-2 : tie.Need-returns-2
 returns-2 c =
     let a = c .before .before .before .before .args in
     refuses (write-short (a .number) (length (a .out .now)) (omega arith) (omega arith)) (c .refuse2 .ensures)
-
-word-of-requires : tie.Need-word-of-requires
-word-of-requires c κs = search needs
-
-lay-row-requires : tie.Need-lay-row-requires
-lay-row-requires c κs = search needs
-
-done-requires : tie.Need-done-requires
-done-requires c κs = search needs
-
-same-length : tie.Need-same-length
-same-length c = search needs
 
 returns-3 : tie.Need-returns-3
 returns-3 c =
@@ -58,12 +40,9 @@ pub write-spec : {M : Type 1} → statement M
 write-spec =
     tie.close
     (tie.spec
-    refuse-requires
+    (λ c κs. search needs)
     returns
-    refuse-requires-2
+    (λ c κs. search needs)
     returns-2
-    word-of-requires
-    lay-row-requires
-    done-requires
-    same-length
+    (λ c κs. search needs) (λ c κs. search needs) (λ c κs. search needs) (λ c. search needs)
     returns-3)

@@ -20,12 +20,6 @@ abbrev μ-loop : tie.MeasureT-loop
 loop-holds : tie.Need-loop-holds Inv-loop μ-loop
 loop-holds c = (search needs, start _ _ _ (c .before .pre .1))
 
-array-read-pass : tie.Need-array-read-pass Inv-loop μ-loop
-array-read-pass c = search needs
-
-array-read-pass-2 : tie.Need-array-read-pass-2 Inv-loop μ-loop
-array-read-pass-2 c = search needs
-
 pass-requires : tie.Need-pass-requires Inv-loop μ-loop
 pass-requires c κs =
     let a = c .before .before .before .before .args in
@@ -35,12 +29,6 @@ pass-requires c κs =
     let copies = replicate (getD (a .t1) (l .x) 0) (getD (a .t2) (l .x) 0) in
     let rest = passed (drop (l .x + 1) (a .t1)) (drop (l .x + 1) (a .t2)) in
     (c .before .before .before .before .pre .0 (l .x), fits-piece copies rest (l .inv .1) (passed-more (a .t1) (a .t2) (l .x) (omega arith) (omega arith)))
-
-add-x : tie.Need-add-x Inv-loop μ-loop
-add-x c = search needs
-
-loop-less : tie.Need-loop-less Inv-loop μ-loop
-loop-less c = search needs
 
 loop-again : tie.Need-loop-again Inv-loop μ-loop
 loop-again c =
@@ -67,11 +55,9 @@ lay-spec =
     Inv-loop
     μ-loop
     loop-holds
-    array-read-pass
-    array-read-pass-2
+    (λ c. search needs) (λ c. search needs)
     pass-requires
-    add-x
-    loop-less
+    (λ c. search needs) (λ c. search needs)
     loop-again
     same-length
     returns)

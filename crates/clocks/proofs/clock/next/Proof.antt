@@ -7,15 +7,6 @@ use borrow.Author.Needs.{needs}
 use Rattle.clocks.proofs.clock.next.Statement.{statement}
 use Rattle.clocks.proofs.clock.next.Tie as tie
 
-wide-requires : tie.Need-wide-requires
-wide-requires c κs = search needs
-
-one-requires : tie.Need-one-requires
-one-requires c κs = search needs
-
-last-requires : tie.Need-last-requires
-last-requires c κs = search needs
-
 returns : tie.Need-returns
 unfolding registerAfter
 returns c =
@@ -23,4 +14,4 @@ returns c =
     c .last .ensures (registerOf (a .register)) (isOne (a .u) ∷ []) (rw (c .before .before .wide .ensures) at (c .before .one .ensures))
 
 pub next-spec : {M : Type 1} → statement M
-next-spec = tie.close (tie.spec wide-requires one-requires last-requires returns)
+next-spec = tie.close (tie.spec (λ c κs. search needs) (λ c κs. search needs) (λ c κs. search needs) returns)

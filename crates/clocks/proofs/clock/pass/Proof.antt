@@ -17,31 +17,16 @@ returns c =
 slice-write-out : tie.Need-slice-write-out
 slice-write-out c = let a = c .before .args in omega (arith, c .if1 .left, c .before .pre .1, length-replicate (a .flag) (a .bit))
 
-add-result : tie.Need-add-result
-add-result c = search needs
-
-same-length : tie.Need-same-length
-same-length c = search needs
-
 returns-2 : tie.Need-returns-2
 returns-2 c =
     let a = c .before .before .args in
     let one : a .flag ≡ 1 = c .if2 .taken in
     rw one (lays-one (a .at) (a .bit) (a .out .now) (omega (arith, rw one at (c .before .before .pre .1))))
 
-add-out : tie.Need-add-out
-add-out c = search needs
-
 slice-write-out-2 : tie.Need-slice-write-out-2
 slice-write-out-2 c =
     let a = c .before .before .args in
     simp length-set (omega (arith, c .before .if1 .left, c .if2 .left, c .before .before .pre .1, length-replicate (a .flag) (a .bit)))
-
-add-result-2 : tie.Need-add-result-2
-add-result-2 c = search needs
-
-same-length-2 : tie.Need-same-length-2
-same-length-2 c = search needs
 
 returns-3 : tie.Need-returns-3
 returns-3 c =
@@ -56,11 +41,9 @@ pass-spec =
     (tie.spec
     returns
     slice-write-out
-    add-result
-    same-length
+    (λ c. search needs) (λ c. search needs)
     returns-2
-    add-out
+    (λ c. search needs)
     slice-write-out-2
-    add-result-2
-    same-length-2
+    (λ c. search needs) (λ c. search needs)
     returns-3)

@@ -7,24 +7,6 @@ use borrow.Author.Needs.{needs}
 use Rattle.clocks.proofs.clock.three.Statement.{statement}
 use Rattle.clocks.proofs.clock.three.Tie as tie
 
-wide-requires : tie.Need-wide-requires
-wide-requires c κs = search needs
-
-one-requires : tie.Need-one-requires
-one-requires c κs = search needs
-
-y0-requires : tie.Need-y0-requires
-y0-requires c κs = search needs
-
-lowest-requires : tie.Need-lowest-requires
-lowest-requires c κs = search needs
-
-y1-requires : tie.Need-y1-requires
-y1-requires c κs = search needs
-
-lowest-requires-2 : tie.Need-lowest-requires-2
-lowest-requires-2 c κs = search needs
-
 returns : tie.Need-returns
 returns c =
     let a = c .before .before .before .before .before .before .args in
@@ -37,10 +19,5 @@ pub three-spec : {M : Type 1} → statement M
 three-spec =
     tie.close
     (tie.spec
-    wide-requires
-    one-requires
-    y0-requires
-    lowest-requires
-    y1-requires
-    lowest-requires-2
+    (λ c κs. search needs) (λ c κs. search needs) (λ c κs. search needs) (λ c κs. search needs) (λ c κs. search needs) (λ c κs. search needs)
     returns)

@@ -11,9 +11,6 @@ use Rattle.encoder.proofs.Number.{is-one, feedback-small}
 use Rattle.clocks.proofs.ending.alone.Statement.{statement}
 use Rattle.clocks.proofs.ending.alone.Tie as tie
 
-fed-back-requires : tie.Need-fed-back-requires
-fed-back-requires c κs = search needs
-
 six-requires : tie.Need-six-requires
 six-requires c κs = (search needs, search needs, search needs, feedback-small (c .before .before .args .register) (c .before .fed-back .ensures))
 
@@ -33,4 +30,4 @@ returns-2 c =
     rw (c .before .if1 .left) (c .six2 .ensures ∙ ap (λ (u : Bool). map byte (six r start u false)) (is-one (feedback r) (c .before .before .fed-back .ensures)))
 
 pub alone-spec : {M : Type 1} → statement M
-alone-spec = tie.close (tie.spec fed-back-requires six-requires returns six-requires-2 returns-2)
+alone-spec = tie.close (tie.spec (λ c κs. search needs) six-requires returns six-requires-2 returns-2)

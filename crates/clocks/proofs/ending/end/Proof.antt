@@ -21,9 +21,6 @@ end-one-requires-2 c κs =
     let first = c .before .before .before .end-one .ensures in
     ((search needs, p .0 .1, p .0 .2), second-fits (a .at) (firstBytes (a .tail) (registerOf (a .a))) (secondBytes (a .tail) (registerOf (a .b))) (a .out .now) both (p .1) first)
 
-same-length : tie.Need-same-length
-same-length c = search needs
-
 returns : tie.Need-returns
 returns c =
     let a = c .before .before .before .before .before .before .before .before .before .args in
@@ -33,4 +30,4 @@ returns c =
     both-laid (a .at) (firstBytes (a .tail) (registerOf (a .a))) (secondBytes (a .tail) (registerOf (a .b))) (a .out .now) both (p .1) first (c .before .before .end-one2 .ensures)
 
 pub end-spec : {M : Type 1} → statement M
-end-spec = tie.close (tie.spec end-one-requires end-one-requires-2 same-length returns)
+end-spec = tie.close (tie.spec end-one-requires end-one-requires-2 (λ c. search needs) returns)

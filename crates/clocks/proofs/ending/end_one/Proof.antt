@@ -25,17 +25,8 @@ Inv-loop from second register at out₀ tail to₀ r₀ t₀ t-end out to r t =
 abbrev μ-loop : tie.MeasureT-loop
 μ-loop from second register at out₀ tail to₀ r₀ t₀ t-end out to r t = from + 3 - t
 
-add-t-end : tie.Need-add-t-end Inv-loop μ-loop
-add-t-end c = search needs
-
 loop-holds : tie.Need-loop-holds Inv-loop μ-loop
 loop-holds c = (search needs, search needs, start _ _ _ (c .before .pre .1))
-
-mul-flags : tie.Need-mul-flags Inv-loop μ-loop
-mul-flags c = search needs
-
-array-copy-out-flags : tie.Need-array-copy-out-flags Inv-loop μ-loop
-array-copy-out-flags c = search needs
 
 alone-requires : tie.Need-alone-requires Inv-loop μ-loop
 alone-requires c κs = c .before .before .loop .inv .1
@@ -60,12 +51,6 @@ next-requires : tie.Need-next-requires Inv-loop μ-loop
 next-requires c κs =
     let l = c .before .before .before .before .before .before .before .before .loop in
     (l .inv .1, feedback-small (l .r) (c .fed-back .ensures))
-
-add-t : tie.Need-add-t Inv-loop μ-loop
-add-t c = search needs
-
-loop-less : tie.Need-loop-less Inv-loop μ-loop
-loop-less c = search needs
 
 loop-again : tie.Need-loop-again Inv-loop μ-loop
 loop-again c =
@@ -94,16 +79,14 @@ end-one-spec =
     (tie.spec
     Inv-loop
     μ-loop
-    add-t-end
+    (λ c. search needs)
     loop-holds
-    mul-flags
-    array-copy-out-flags
+    (λ c. search needs) (λ c. search needs)
     alone-requires
     lay-requires
     fed-back-requires
     next-requires
-    add-t
-    loop-less
+    (λ c. search needs) (λ c. search needs)
     loop-again
     same-length
     returns)

@@ -8,9 +8,6 @@ use Rattle.datagrams.proofs.Pieces.{within-byte, byte-and-rest}
 use Rattle.datagrams.proofs.packing.pack.Statement.{statement}
 use Rattle.datagrams.proofs.packing.pack.Tie as tie
 
-sub-head : tie.Need-sub-head
-sub-head c = search needs
-
 slice-aggregate-pack-part : tie.Need-slice-aggregate-pack-part
 slice-aggregate-pack-part c = let start = c .before .before .before .before in sym (length-take-le (start .args .n) (start .args .row .now) (start .pre .0))
 
@@ -29,32 +26,11 @@ pack-part-requires-2 c κs =
     let long = length-take-le (8 - start .args .at % 8) (start .args .row .now) (omega arith) in
     (omega arith, omega arith)
 
-sub-pack-from : tie.Need-sub-pack-from
-sub-pack-from c = search needs
-
-part-pack-from-start : tie.Need-part-pack-from-start
-part-pack-from-start c = search needs
-
-part-pack-from-end : tie.Need-part-pack-from-end
-part-pack-from-end c = search needs
-
-add-pack-from : tie.Need-add-pack-from
-add-pack-from c = search needs
-
-pack-from-requires : tie.Need-pack-from-requires
-pack-from-requires c κs = search needs
-
-same-length : tie.Need-same-length
-same-length c = search needs
-
 returns : tie.Need-returns
 returns c =
     let start = c .before .before .before .before .before .before .before .before in
     let a = start .args in
     within-byte (a .at) (a .n) (a .row .now) (a .out .now) (start .pre .0) (c .before .before .pack-part .ensures)
-
-same-length-2 : tie.Need-same-length-2
-same-length-2 c = search needs
 
 returns-2 : tie.Need-returns-2
 returns-2 c =
@@ -68,17 +44,12 @@ pub pack-spec : {M : Type 1} → statement M
 pack-spec =
     tie.close
     (tie.spec
-    sub-head
+    (λ c. search needs)
     slice-aggregate-pack-part
     pack-part-requires
     slice-aggregate-pack-part-2
     pack-part-requires-2
-    sub-pack-from
-    part-pack-from-start
-    part-pack-from-end
-    add-pack-from
-    pack-from-requires
-    same-length
+    (λ c. search needs) (λ c. search needs) (λ c. search needs) (λ c. search needs) (λ c κs. search needs) (λ c. search needs)
     returns
-    same-length-2
+    (λ c. search needs)
     returns-2)

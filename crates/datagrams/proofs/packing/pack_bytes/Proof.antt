@@ -26,23 +26,11 @@ loop-holds c =
     let a = c .before .before .args in
     (search needs, search needs, rw (add-zero, sub-zero) (start (a .out .now) (a .j) (bytesOf (length (a .row .now) / 8) (map isOne (a .row .now))) (simp length-bytesOf (omega arith))))
 
-byte-at-requires : tie.Need-byte-at-requires Inv-loop μ-loop
-byte-at-requires c κs = search needs
-
-add-out : tie.Need-add-out Inv-loop μ-loop
-add-out c = search needs
-
 slice-write-out : tie.Need-slice-write-out Inv-loop μ-loop
 slice-write-out c =
     let row = c .before .before .before .before .before .args .row .now in
     let at = c .before .before .loop in
     fits _ _ (at .inv .2) (bytes-more (length row / 8) (at .i) row (omega arith))
-
-add-i : tie.Need-add-i Inv-loop μ-loop
-add-i c = search needs
-
-loop-less : tie.Need-loop-less Inv-loop μ-loop
-loop-less c = search needs
 
 loop-again : tie.Need-loop-again Inv-loop μ-loop
 loop-again c =
@@ -66,11 +54,9 @@ pack-bytes-spec =
     Inv-loop
     μ-loop
     loop-holds
-    byte-at-requires
-    add-out
+    (λ c κs. search needs) (λ c. search needs)
     slice-write-out
-    add-i
-    loop-less
+    (λ c. search needs) (λ c. search needs)
     loop-again
     same-length
     returns)

@@ -5,30 +5,6 @@ use Rattle.datagrams.proofs.Pieces.{bytes-and-rest}
 use Rattle.datagrams.proofs.packing.pack_from.Statement.{statement}
 use Rattle.datagrams.proofs.packing.pack_from.Tie as tie
 
-pack-bytes-requires : tie.Need-pack-bytes-requires
-pack-bytes-requires c κs = search needs
-
-mul-whole : tie.Need-mul-whole
-mul-whole c = search needs
-
-sub-pack-part : tie.Need-sub-pack-part
-sub-pack-part c = search needs
-
-part-pack-part-start : tie.Need-part-pack-part-start
-part-pack-part-start c = search needs
-
-part-pack-part-end : tie.Need-part-pack-part-end
-part-pack-part-end c = search needs
-
-add-pack-part : tie.Need-add-pack-part
-add-pack-part c = search needs
-
-pack-part-requires : tie.Need-pack-part-requires
-pack-part-requires c κs = search needs
-
-same-length : tie.Need-same-length
-same-length c = search needs
-
 returns : tie.Need-returns
 returns c =
     let start = c .before .before .before .before .before .before .before .before .before .before .before in
@@ -40,12 +16,6 @@ pub pack-from-spec : {M : Type 1} → statement M
 pack-from-spec =
     tie.close
     (tie.spec
-    pack-bytes-requires
-    mul-whole
-    sub-pack-part
-    part-pack-part-start
-    part-pack-part-end
-    add-pack-part
-    pack-part-requires
-    same-length
+    (λ c κs. search needs) (λ c. search needs) (λ c. search needs) (λ c. search needs) (λ c. search needs) (λ c. search needs) (λ c κs. search needs)
+    (λ c. search needs)
     returns)

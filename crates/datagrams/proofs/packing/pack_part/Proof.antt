@@ -8,18 +8,6 @@ use Rattle.datagrams.proofs.Packed.{bytes-known, packed-none, packed-pa
 use Rattle.datagrams.proofs.packing.pack_part.Statement.{statement}
 use Rattle.datagrams.proofs.packing.pack_part.Tie as tie
 
-slice-read-byte-over : tie.Need-slice-read-byte-over
-slice-read-byte-over c = search needs
-
-byte-over-requires : tie.Need-byte-over-requires
-byte-over-requires c κs = search needs
-
-slice-write-out : tie.Need-slice-write-out
-slice-write-out c = search needs
-
-same-length : tie.Need-same-length
-same-length c = search needs
-
 returns : tie.Need-returns
 returns c =
     let start = c .before .before .before .before .before in
@@ -37,9 +25,6 @@ pub pack-part-spec : {M : Type 1} → statement M
 pack-part-spec =
     tie.close
     (tie.spec
-    slice-read-byte-over
-    byte-over-requires
-    slice-write-out
-    same-length
+    (λ c. search needs) (λ c κs. search needs) (λ c. search needs) (λ c. search needs)
     returns
     returns-2)

@@ -27,26 +27,8 @@ loop-holds c =
     let a = c .before .before .args in
     (search needs, search needs, start (a .row .now) 0 (map byte (filled (a .n) (drop (a .from) (bitsOf (a .datagram .now))))) (simp (length-map, length-filled) (omega arith)))
 
-mul-bits-from : tie.Need-mul-bits-from Inv-loop μ-loop
-mul-bits-from c = search needs
-
-add-bits-from : tie.Need-add-bits-from Inv-loop μ-loop
-add-bits-from c = search needs
-
-bits-from-requires : tie.Need-bits-from-requires Inv-loop μ-loop
-bits-from-requires c κs = search needs
-
-mul-lay-bits : tie.Need-mul-lay-bits Inv-loop μ-loop
-mul-lay-bits c = search needs
-
 lay-bits-requires : tie.Need-lay-bits-requires Inv-loop μ-loop
 lay-bits-requires c κs = (search needs, omega (arith, c .before .before .before .loop .inv .2 .long))
-
-add-j : tie.Need-add-j Inv-loop μ-loop
-add-j c = search needs
-
-loop-less : tie.Need-loop-less Inv-loop μ-loop
-loop-less c = search needs
 
 loop-again : tie.Need-loop-again Inv-loop μ-loop
 loop-again c =
@@ -56,23 +38,8 @@ loop-again c =
     let laid = next-laid (a .n) (a .from) (at .j * 8) (bitsOf (a .datagram .now)) 8 _ (omega arith) (c .before .before .before .before .bits-from .ensures) in
     (search needs, search needs, more-piece _ _ (at .inv .2) (rw next at laid) (simp (length-map, length-highFirst) (omega arith), c .before .before .lay-bits .ensures))
 
-mul-whole : tie.Need-mul-whole Inv-loop μ-loop
-mul-whole c = search needs
-
-sub-rest : tie.Need-sub-rest Inv-loop μ-loop
-sub-rest c = search needs
-
-add-bits-from-2 : tie.Need-add-bits-from-2 Inv-loop μ-loop
-add-bits-from-2 c = search needs
-
-bits-from-requires-2 : tie.Need-bits-from-requires-2 Inv-loop μ-loop
-bits-from-requires-2 c κs = search needs
-
 lay-bits-requires-2 : tie.Need-lay-bits-requires-2 Inv-loop μ-loop
 lay-bits-requires-2 c κs = (search needs, omega (arith, c .before .before .before .loop .inv .2 .long))
-
-same-length : tie.Need-same-length Inv-loop μ-loop
-same-length c = search needs
 
 returns : tie.Need-returns Inv-loop μ-loop
 returns c =
@@ -89,18 +56,11 @@ unpack-spec =
     Inv-loop
     μ-loop
     loop-holds
-    mul-bits-from
-    add-bits-from
-    bits-from-requires
-    mul-lay-bits
+    (λ c. search needs) (λ c. search needs) (λ c κs. search needs) (λ c. search needs)
     lay-bits-requires
-    add-j
-    loop-less
+    (λ c. search needs) (λ c. search needs)
     loop-again
-    mul-whole
-    sub-rest
-    add-bits-from-2
-    bits-from-requires-2
+    (λ c. search needs) (λ c. search needs) (λ c. search needs) (λ c κs. search needs)
     lay-bits-requires-2
-    same-length
+    (λ c. search needs)
     returns)

@@ -5,21 +5,6 @@ use borrow.Author.Needs.{needs}
 use Rattle.encoder.proofs.inputs.four.Statement.{statement}
 use Rattle.encoder.proofs.inputs.four.Tie as tie
 
-two-requires : tie.Need-two-requires
-two-requires c κs = search needs
-
-mul-result : tie.Need-mul-result
-mul-result c = search needs
-
-add-two : tie.Need-add-two
-add-two c = search needs
-
-two-requires-2 : tie.Need-two-requires-2
-two-requires-2 c κs = search needs
-
-add-result : tie.Need-add-result
-add-result c = search needs
-
 returns : tie.Need-returns
 returns c =
     let a = c .before .before .before .args in
@@ -29,4 +14,4 @@ returns c =
     (omega (arith, first .0, second .0, number-parts (a .bits .now) (a .s) 2 2 (omega (arith, p .0))), omega (arith, first .1, second .1))
 
 pub four-spec : {M : Type 1} → statement M
-four-spec = tie.close (tie.spec two-requires mul-result add-two two-requires-2 add-result returns)
+four-spec = tie.close (tie.spec (λ c κs. search needs) (λ c. search needs) (λ c. search needs) (λ c κs. search needs) (λ c. search needs) returns)

@@ -9,33 +9,6 @@ use borrow.Author.Needs.{needs}
 use Rattle.encoder.proofs.inputs.packed.Statement.{statement}
 use Rattle.encoder.proofs.inputs.packed.Tie as tie
 
-eight-requires : tie.Need-eight-requires
-eight-requires c κs = search needs
-
-mul-result : tie.Need-mul-result
-mul-result c = search needs
-
-add-eight : tie.Need-add-eight
-add-eight c = search needs
-
-eight-requires-2 : tie.Need-eight-requires-2
-eight-requires-2 c κs = search needs
-
-mul-result-2 : tie.Need-mul-result-2
-mul-result-2 c = search needs
-
-add-result : tie.Need-add-result
-add-result c = search needs
-
-add-eight-2 : tie.Need-add-eight-2
-add-eight-2 c = search needs
-
-eight-requires-3 : tie.Need-eight-requires-3
-eight-requires-3 c κs = search needs
-
-add-result-2 : tie.Need-add-result-2
-add-result-2 c = search needs
-
 returns : tie.Need-returns
 returns c =
     let a = c .before .before .before .before .args in
@@ -53,13 +26,6 @@ pub packed-spec : {M : Type 1} → statement M
 packed-spec =
     tie.close
     (tie.spec
-    eight-requires
-    mul-result
-    add-eight
-    eight-requires-2
-    mul-result-2
-    add-result
-    add-eight-2
-    eight-requires-3
-    add-result-2
+    (λ c κs. search needs) (λ c. search needs) (λ c. search needs) (λ c κs. search needs) (λ c. search needs) (λ c. search needs) (λ c. search needs)
+    (λ c κs. search needs) (λ c. search needs)
     returns)

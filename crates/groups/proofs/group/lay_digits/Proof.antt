@@ -22,29 +22,11 @@ abbrev μ-loop : tie.MeasureT-loop
 loop-holds : tie.Need-loop-holds Inv-loop μ-loop
 loop-holds c = (search needs, rw add-zero (start _ _ _ (c .before .before .pre .1)))
 
-shared-slice-read-wide : tie.Need-shared-slice-read-wide Inv-loop μ-loop
-shared-slice-read-wide c = search needs
-
-wide-requires : tie.Need-wide-requires Inv-loop μ-loop
-wide-requires c κs = search needs
-
 mul-out : tie.Need-mul-out Inv-loop μ-loop
 mul-out c = omega (arith, c .wide .ensures .1)
 
 array-read-out : tie.Need-array-read-out Inv-loop μ-loop
 array-read-out c = omega (arith, c .wide .ensures .1)
-
-cast-out : tie.Need-cast-out Inv-loop μ-loop
-cast-out c = search needs
-
-shr-out : tie.Need-shr-out Inv-loop μ-loop
-shr-out c = search needs
-
-cast-out-2 : tie.Need-cast-out-2 Inv-loop μ-loop
-cast-out-2 c = search needs
-
-add-out : tie.Need-add-out Inv-loop μ-loop
-add-out c = search needs
 
 slice-write-out : tie.Need-slice-write-out Inv-loop μ-loop
 slice-write-out c =
@@ -52,12 +34,6 @@ slice-write-out c =
     let p = c .before .before .before .before .before .before .pre in
     let l = c .before .before .before .loop in
     fits _ _ (l .inv .1) (at-more (digit (a .t1)) (a .places .now) (a .count) (l .i) (omega arith) (p .0))
-
-add-i : tie.Need-add-i Inv-loop μ-loop
-add-i c = search needs
-
-loop-less : tie.Need-loop-less Inv-loop μ-loop
-loop-less c = search needs
 
 loop-again : tie.Need-loop-again Inv-loop μ-loop
 unfolding digit
@@ -88,17 +64,12 @@ lay-digits-spec =
     Inv-loop
     μ-loop
     loop-holds
-    shared-slice-read-wide
-    wide-requires
+    (λ c. search needs) (λ c κs. search needs)
     mul-out
     array-read-out
-    cast-out
-    shr-out
-    cast-out-2
-    add-out
+    (λ c. search needs) (λ c. search needs) (λ c. search needs) (λ c. search needs)
     slice-write-out
-    add-i
-    loop-less
+    (λ c. search needs) (λ c. search needs)
     loop-again
     add-result
     same-length

@@ -29,17 +29,11 @@ loop-holds c =
     let room = places-room (a .t1) (a .period) (p .0) (omega arith) (p .2) in
     (search needs, rw sub-zero (start _ _ _ (omega (arith, rw sub-zero at room, p .3))))
 
-rem-flags : tie.Need-rem-flags Inv-loop μ-loop
-rem-flags c = search needs
-
 mul-flags : tie.Need-mul-flags Inv-loop μ-loop
 mul-flags c = omega (arith, mod-lt (c .before .loop .c) (c .before .before .before .pre .0))
 
 array-copy-out-flags : tie.Need-array-copy-out-flags Inv-loop μ-loop
 array-copy-out-flags c = omega (arith, mod-lt (c .before .loop .c) (c .before .before .before .pre .0))
-
-places-of-requires : tie.Need-places-of-requires Inv-loop μ-loop
-places-of-requires c κs = search needs
 
 lay-requires : tie.Need-lay-requires Inv-loop μ-loop
 lay-requires c κs =
@@ -50,12 +44,6 @@ lay-requires c κs =
     let more = places-more (a .t1) (a .period) (p .0) (omega arith) (l .c) (omega arith) in
     let clock = passed (getD (a .t1) (l .c % a .period) []) (placesOf (l .c)) in
     (p .2 _, rw (c .before .places-of .ensures) (fits-piece clock (placesLeft (a .t1) (a .period) (l .c + 1)) (l .inv .1) more))
-
-add-c : tie.Need-add-c Inv-loop μ-loop
-add-c c = search needs
-
-loop-less : tie.Need-loop-less Inv-loop μ-loop
-loop-less c = search needs
 
 loop-again : tie.Need-loop-again Inv-loop μ-loop
 loop-again c =
@@ -85,13 +73,12 @@ lay-places-spec =
     Inv-loop
     μ-loop
     loop-holds
-    rem-flags
+    (λ c. search needs)
     mul-flags
     array-copy-out-flags
-    places-of-requires
+    (λ c κs. search needs)
     lay-requires
-    add-c
-    loop-less
+    (λ c. search needs) (λ c. search needs)
     loop-again
     same-length
     returns)

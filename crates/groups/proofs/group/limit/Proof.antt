@@ -5,9 +5,6 @@ use borrow.Author.Needs.{needs}
 use Rattle.groups.proofs.group.limit.Statement.{statement}
 use Rattle.groups.proofs.group.limit.Tie as tie
 
-rem-if1 : tie.Need-rem-if1
-rem-if1 c = search needs
-
 returns : tie.Need-returns
 returns c = rw (eq-eqb (24 % c .before .args .period) 0 (c .if1 .taken))
 
@@ -15,4 +12,4 @@ returns-2 : tie.Need-returns-2
 returns-2 c = rw (ne-eqb (24 % c .before .args .period) 0 (c .if1 .left))
 
 pub limit-spec : {M : Type 1} → statement M
-limit-spec = tie.close (tie.spec rem-if1 returns returns-2)
+limit-spec = tie.close (tie.spec (λ c. search needs) returns returns-2)

@@ -9,36 +9,6 @@ use borrow.Author.Needs.{needs}
 use Rattle.groups.proofs.group.put_group.Statement.{statement}
 use Rattle.groups.proofs.group.put_group.Tie as tie
 
-packed-requires : tie.Need-packed-requires
-packed-requires c κs = search needs
-
-packed-requires-2 : tie.Need-packed-requires-2
-packed-requires-2 c κs = search needs
-
-many-requires : tie.Need-many-requires
-many-requires c κs = search needs
-
-many-requires-2 : tie.Need-many-requires-2
-many-requires-2 c κs = search needs
-
-y0-requires : tie.Need-y0-requires
-y0-requires c κs = search needs
-
-y1-requires : tie.Need-y1-requires
-y1-requires c κs = search needs
-
-y0-requires-2 : tie.Need-y0-requires-2
-y0-requires-2 c κs = search needs
-
-y1-requires-2 : tie.Need-y1-requires-2
-y1-requires-2 c κs = search needs
-
-last-requires : tie.Need-last-requires
-last-requires c κs = search needs
-
-last-requires-2 : tie.Need-last-requires-2
-last-requires-2 c κs = search needs
-
 returns : tie.Need-returns
 returns c =
     let a = c .before .before .before .before .before .before .before .before .before .before .before .before .args in
@@ -63,14 +33,6 @@ pub put-group-spec : {M : Type 1} → statement M
 put-group-spec =
     tie.close
     (tie.spec
-    packed-requires
-    packed-requires-2
-    many-requires
-    many-requires-2
-    y0-requires
-    y1-requires
-    y0-requires-2
-    y1-requires-2
-    last-requires
-    last-requires-2
+    (λ c κs. search needs) (λ c κs. search needs) (λ c κs. search needs) (λ c κs. search needs) (λ c κs. search needs) (λ c κs. search needs)
+    (λ c κs. search needs) (λ c κs. search needs) (λ c κs. search needs) (λ c κs. search needs)
     returns)

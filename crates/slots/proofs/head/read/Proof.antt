@@ -53,20 +53,11 @@ head c =
 named : (c : tie.Else4) → word (c .before .before) .status ≡ done
 named c = equal (word (c .before .before) .status) done (c .if4 .left)
 
-refuse-requires : tie.Need-refuse-requires
-refuse-requires c κs = search needs
-
 returns : tie.Need-returns
 returns c = c .refuse .ensures ∙ sym (head-short (c .before .before .before .args .burst .now) (c .before .if1 .taken))
 
 slice-aggregate-all-bits : tie.Need-slice-aggregate-all-bits
 slice-aggregate-all-bits c = sym (length-take-le headLength (burst (c .before)) (long (c .before)))
-
-all-bits-requires : tie.Need-all-bits-requires
-all-bits-requires c κs = search needs
-
-refuse-requires-2 : tie.Need-refuse-requires-2
-refuse-requires-2 c κs = search needs
 
 returns-2 : tie.Need-returns-2
 returns-2 c =
@@ -83,21 +74,6 @@ wrong-requires c κs =
     let at = whole (c .before) in
     (length-take-le trainingLength (burst at) (omega (arith, long at)), training-bits (burst at) (all (c .before)))
 
-sub-read : tie.Need-sub-read
-sub-read c = search needs
-
-part-read-start : tie.Need-part-read-start
-part-read-start c = search needs
-
-part-read-end : tie.Need-part-read-end
-part-read-end c = search needs
-
-read-requires : tie.Need-read-requires
-read-requires c κs = search needs
-
-refuse-requires-3 : tie.Need-refuse-requires-3
-refuse-requires-3 c κs = search needs
-
 returns-3 : tie.Need-returns-3
 returns-3 c =
     let read = c .before .before in
@@ -105,20 +81,11 @@ returns-3 c =
     let untrained = unequal (wrong read) 0 (c .before .if3 .taken) in
     c .refuse3 .ensures ∙ sym (head-no-training (burst (whole at)) (long (whole at)) (all at) (λ e. untrained (counted read ∙ e)))
 
-refuse-requires-4 : tie.Need-refuse-requires-4
-refuse-requires-4 c κs = search needs
-
 returns-4 : tie.Need-returns-4
 returns-4 c =
     let trained = c .before .before in
     let nameless = unequal (word (trained .before) .status) done (c .before .if4 .taken) in
     c .refuse4 .ensures ∙ sym (head trained ∙ word-refused _ _ nameless)
-
-is-slot-link-requires : tie.Need-is-slot-link-requires
-is-slot-link-requires c κs = search needs
-
-refuse-requires-5 : tie.Need-refuse-requires-5
-refuse-requires-5 c κs = search needs
 
 returns-5 : tie.Need-returns-5
 returns-5 c =
@@ -137,24 +104,18 @@ pub read-spec : {M : Type 1} → statement M
 read-spec =
     tie.close
     (tie.spec
-    refuse-requires
+    (λ c κs. search needs)
     returns
     slice-aggregate-all-bits
-    all-bits-requires
-    refuse-requires-2
+    (λ c κs. search needs) (λ c κs. search needs)
     returns-2
     slice-aggregate-wrong
     wrong-requires
-    sub-read
-    part-read-start
-    part-read-end
-    read-requires
-    refuse-requires-3
+    (λ c. search needs) (λ c. search needs) (λ c. search needs) (λ c κs. search needs) (λ c κs. search needs)
     returns-3
-    refuse-requires-4
+    (λ c κs. search needs)
     returns-4
-    is-slot-link-requires
-    refuse-requires-5
+    (λ c κs. search needs) (λ c κs. search needs)
     returns-5
     find-requires
     returns-6)

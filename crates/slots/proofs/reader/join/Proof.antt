@@ -5,9 +5,6 @@ use Rattle.slots.specs.Calls.{both}
 use Rattle.slots.proofs.reader.join.Statement.{statement}
 use Rattle.slots.proofs.reader.join.Tie as tie
 
-refuse-requires : tie.Need-refuse-requires
-refuse-requires c κs = search needs
-
 returns : tie.Need-returns
 unfolding both
 returns c =
@@ -21,4 +18,4 @@ returns-2 c =
     rw (eq-eqb (block .status) 0 (c .if1 .left))
 
 pub join-spec : {M : Type 1} → statement M
-join-spec = tie.close (tie.spec refuse-requires returns returns-2)
+join-spec = tie.close (tie.spec (λ c κs. search needs) returns returns-2)

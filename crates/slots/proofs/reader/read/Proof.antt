@@ -6,12 +6,6 @@ use Rattle.slots.proofs.Reading.{head-refused, joins, head-long}
 use Rattle.slots.proofs.reader.read.Statement.{statement}
 use Rattle.slots.proofs.reader.read.Tie as tie
 
-read-requires : tie.Need-read-requires
-read-requires c κs = search needs
-
-refuse-requires : tie.Need-refuse-requires
-refuse-requires c κs = search needs
-
 returns : tie.Need-returns
 returns c =
     let a = c .before .before .before .before .before .before .args in
@@ -23,18 +17,6 @@ sub-read c = head-long (c .before .before .before .before .before .args .burst .
 part-read-start : tie.Need-part-read-start
 part-read-start c = head-long (c .before .before .before .before .before .args .burst .now) (c .before .before .read .ensures) (c .if1 .left)
 
-part-read-end : tie.Need-part-read-end
-part-read-end c = search needs
-
-read-requires-2 : tie.Need-read-requires-2
-read-requires-2 c κs = search needs
-
-join-requires : tie.Need-join-requires
-join-requires c κs = search needs
-
-same-length : tie.Need-same-length
-same-length c = search needs
-
 returns-2 : tie.Need-returns-2
 returns-2 c =
     let a = c .before .before .before .before .before .before .before .before .before .before .before .args in
@@ -45,13 +27,9 @@ pub read-spec : {M : Type 1} → statement M
 read-spec =
     tie.close
     (tie.spec
-    read-requires
-    refuse-requires
+    (λ c κs. search needs) (λ c κs. search needs)
     returns
     sub-read
     part-read-start
-    part-read-end
-    read-requires-2
-    join-requires
-    same-length
+    (λ c. search needs) (λ c κs. search needs) (λ c κs. search needs) (λ c. search needs)
     returns-2)

@@ -21,29 +21,11 @@ loop-holds : tie.Need-loop-holds Inv-loop μ-loop
 unfolding characters symbols highFirst
 loop-holds c = (search needs, refl, training-start (c .args .out .now) (search needs))
 
-array-read-bit : tie.Need-array-read-bit Inv-loop μ-loop
-array-read-bit c = search needs
-
-mul-out : tie.Need-mul-out Inv-loop μ-loop
-mul-out c = search needs
-
 slice-write-out : tie.Need-slice-write-out Inv-loop μ-loop
 slice-write-out c = omega (arith, training-room _ _ (c .before .loop .i) (omega arith) (c .before .loop .inv .2))
 
-mul-out-2 : tie.Need-mul-out-2 Inv-loop μ-loop
-mul-out-2 c = search needs
-
-add-out : tie.Need-add-out Inv-loop μ-loop
-add-out c = search needs
-
 slice-write-out-2 : tie.Need-slice-write-out-2 Inv-loop μ-loop
 slice-write-out-2 c = simp length-set (training-room _ _ (c .before .loop .i) (omega arith) (c .before .loop .inv .2))
-
-add-i : tie.Need-add-i Inv-loop μ-loop
-add-i c = search needs
-
-loop-less : tie.Need-loop-less Inv-loop μ-loop
-loop-less c = search needs
 
 loop-again : tie.Need-loop-again Inv-loop μ-loop
 unfolding characters symbols highFirst
@@ -64,14 +46,11 @@ lay-spec =
     Inv-loop
     μ-loop
     loop-holds
-    array-read-bit
-    mul-out
+    (λ c. search needs) (λ c. search needs)
     slice-write-out
-    mul-out-2
-    add-out
+    (λ c. search needs) (λ c. search needs)
     slice-write-out-2
-    add-i
-    loop-less
+    (λ c. search needs) (λ c. search needs)
     loop-again
     same-length
     returns)

@@ -31,21 +31,6 @@ loop-holds : tie.Need-loop-holds Inv-loop μ-loop
 unfolding characters symbols highFirst
 loop-holds c = (search needs, refl, search needs, omega (arith, left-all (c .args .came .now)))
 
-shared-slice-read-if1 : tie.Need-shared-slice-read-if1 Inv-loop μ-loop
-shared-slice-read-if1 c = search needs
-
-array-read-if1 : tie.Need-array-read-if1 Inv-loop μ-loop
-array-read-if1 c = search needs
-
-add-count : tie.Need-add-count Inv-loop μ-loop
-add-count c = search needs
-
-add-i : tie.Need-add-i Inv-loop μ-loop
-add-i c = search needs
-
-loop-less : tie.Need-loop-less Inv-loop μ-loop
-loop-less c = search needs
-
 loop-again : tie.Need-loop-again Inv-loop μ-loop
 unfolding characters symbols highFirst
 loop-again c =
@@ -72,10 +57,6 @@ wrong-spec =
     Inv-loop
     μ-loop
     loop-holds
-    shared-slice-read-if1
-    array-read-if1
-    add-count
-    add-i
-    loop-less
+    (λ c. search needs) (λ c. search needs) (λ c. search needs) (λ c. search needs) (λ c. search needs)
     loop-again
     returns)

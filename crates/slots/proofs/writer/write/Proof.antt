@@ -41,26 +41,14 @@ size c = c .image-length-at .ensures ∙ ap imageLength (found-row _ (c .before 
 room : (c : tie.Else3) → burstLength (start (c .before .before .before .before .before .before) .args .link) ≤ length (start (c .before .before .before .before .before .before) .args .out .now)
 room c = omega (arith, size (c .before), c .if3 .left)
 
-is-slot-link-requires : tie.Need-is-slot-link-requires
-is-slot-link-requires c κs = search needs
-
-refuse-requires : tie.Need-refuse-requires
-refuse-requires c κs = search needs
-
 returns : tie.Need-returns
 returns c = refuses (write-unoffered _ _ (fails (c .before .before .is-slot-link .ensures) (c .before .if1 .taken))) (c .refuse .ensures)
-
-place-of-requires : tie.Need-place-of-requires
-place-of-requires c κs = search needs
 
 row-at-requires : tie.Need-row-at-requires
 row-at-requires c κs = inside c
 
 bytes-held-requires : tie.Need-bytes-held-requires
 bytes-held-requires c κs = sizes (c .row-at .result) (row-good _ (c .before .place-of .ensures) (c .row-at .ensures) (slot-offered _ (slot (c .before .before)))) .check
-
-refuse-requires-2 : tie.Need-refuse-requires-2
-refuse-requires-2 c κs = search needs
 
 returns-2 : tie.Need-returns-2
 returns-2 c =
@@ -73,9 +61,6 @@ image-length-at-requires c κs = inside (c .before .before .before)
 add-if3 : tie.Need-add-if3
 add-if3 c = record { fits = omega (arith, size c, slot-image _ (slot (c .before .before .before .before .before))) }
 
-refuse-requires-3 : tie.Need-refuse-requires-3
-refuse-requires-3 c κs = search needs
-
 returns-3 : tie.Need-returns-3
 returns-3 c =
     let at = c .before .before in
@@ -84,30 +69,12 @@ returns-3 c =
 lay-requires : tie.Need-lay-requires
 lay-requires c κs = (slot-has-word _ (slot (c .before .before .before .before .before .before .before)), omega (arith, c .before .if3 .left))
 
-sub-write : tie.Need-sub-write
-sub-write c = search needs
-
-part-write-start : tie.Need-part-write-start
-part-write-start c = search needs
-
-part-write-end : tie.Need-part-write-end
-part-write-end c = search needs
-
-write-requires : tie.Need-write-requires
-write-requires c κs = search needs
-
 add-done : tie.Need-add-done
 add-done c =
     let passed = c .before .before .before .before .before .before .before .before .before in
     let is-slot = slot (passed .before .before .before .before .before .before) in
     let count = counted _ is-slot _ (fits (passed .before .before)) _ _ _ (room passed) (c .before .before .before .before .before .before .before .lay .ensures) (c .before .before .before .write .ensures) in
     record { fits = omega (arith, count, slot-image _ is-slot) }
-
-done-requires : tie.Need-done-requires
-done-requires c κs = search needs
-
-same-length : tie.Need-same-length
-same-length c = search needs
 
 returns-4 : tie.Need-returns-4
 returns-4 c =
@@ -121,24 +88,19 @@ pub write-spec : {M : Type 1} → statement M
 write-spec =
     tie.close
     (tie.spec
-    is-slot-link-requires
-    refuse-requires
+    (λ c κs. search needs) (λ c κs. search needs)
     returns
-    place-of-requires
+    (λ c κs. search needs)
     row-at-requires
     bytes-held-requires
-    refuse-requires-2
+    (λ c κs. search needs)
     returns-2
     image-length-at-requires
     add-if3
-    refuse-requires-3
+    (λ c κs. search needs)
     returns-3
     lay-requires
-    sub-write
-    part-write-start
-    part-write-end
-    write-requires
+    (λ c. search needs) (λ c. search needs) (λ c. search needs) (λ c κs. search needs)
     add-done
-    done-requires
-    same-length
+    (λ c κs. search needs) (λ c. search needs)
     returns-4)
