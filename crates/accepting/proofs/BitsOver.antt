@@ -9,8 +9,7 @@ use borrow.Author.Tests.{eq-eqb, ne-eqb}
 use lib.ListN.{length, getD, take, drop, length-map, List·getD-map}
 use lib.Seq.{getD-take, length-take-le}
 use Rattle.lists.proofs.Every.{every-stops, every-passes, every-done}
-use Rattle.bits.specs.Bits.{isOne}
-use Rattle.distance.specs.Valid.{allZero}
+use Rattle.bits.specs.Bits.{isOne, allZero}
 
 -- what is left to test at i of the first n bits of u
 abbrev pub leftOver : List ℕ → ℕ → ℕ → Bool

@@ -6,12 +6,12 @@ use mathlib.Core.List.{List, map}
 use Prim.Native.Nat.{ℕ}
 use lib.Dec.{T}
 use lib.ListN.{length, length-map}
-use Rattle.lists.specs.Over.{Lays}
+use Rattle.lists.specs.working.Laying.{Lays}
 use Rattle.lists.proofs.Over.{over-all}
 use Rattle.bits.specs.Bits.{isOne, byte, allBits}
 use Rattle.bits.proofs.Bits.{bits-bytes, all-bytes}
 use Rattle.links.specs.declared.Row.{Row}
-use Rattle.links.specs.Good.{goodRow}
+use Rattle.links.specs.working.Good.{goodRow}
 use Rattle.links.specs.Sizes.{imageLength}
 use Rattle.blocks.specs.Block.{imageOf}
 use Rattle.blocks.proofs.Sound.{length-image}

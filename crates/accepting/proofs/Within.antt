@@ -10,14 +10,15 @@ use borrow.Author.Tests.{le-leb, lt-leb}
 use Rattle.lists.specs.Over.{over}
 use Rattle.lists.proofs.Over.{over-zero}
 use Rattle.answers.specs.Outcome.{laid}
-use Rattle.bits.specs.Datagram.{allBytes, bytesOf, packedOver}
+use Rattle.bits.specs.Datagram.{allBytes, bytesOf}
+use Rattle.datagrams.specs.working.Packed.{packedOver}
 use Rattle.bits.specs.Row.{differences}
 use Rattle.datagrams.proofs.Packed.{packed-bytes}
 use Rattle.links.specs.declared.Row.{Row}
 use Rattle.links.specs.Sizes.{bytesHeld}
 use Rattle.blocks.specs.Block.{imageOf, datagramOf}
 use Rattle.blocks.specs.Calls.{refused, reading}
-use Rattle.accepting.specs.Within.{within}
+use Rattle.accepting.specs.working.Within.{within}
 
 module _ (limit number : ℕ) (row : Row) (came u : List Bool) where
   pub far-refused : limit < differences (imageOf row u) came → within limit number row came u ≡ refused number

@@ -9,14 +9,13 @@ ghost use Prim.Native.Nat.{_+_, _≤_, min};
 ghost use lib.Dec.{T};
 ghost use lib.ListN.{length};
 ghost use Rattle.answers.specs.Outcome.{Wrote};
-ghost use Rattle.bits.specs.Bits.{isOne, allBits};
+ghost use Rattle.bits.specs.Bits.{isOne, allBits, allZero};
 ghost use Rattle.bits.specs.Row.{differences};
-ghost use Rattle.distance.specs.Valid.{allZero, bitsOver};
-ghost use Rattle.links.specs.Good.{goodRow};
+ghost use Rattle.links.specs.working.Good.{goodRow};
 ghost use Rattle.links.specs.Sizes.{bytesHeld, imageLength};
 ghost use Rattle.blocks.specs.Block.{imageOf};
-ghost use Rattle.blocks.specs.Coding.{codingOf};
-ghost use Rattle.accepting.specs.Within.{found, within};
+ghost use Rattle.blocks.specs.Near.{overPart};
+ghost use Rattle.accepting.specs.working.Within.{found, within};
 
 // Reading answers a datagram's bytes, with the count of wrong places.
 fn answer(count: u32, wrong: u32) -> Block
@@ -32,7 +31,7 @@ fn answer(count: u32, wrong: u32) -> Block
 // Whether the bits over, which stand before the check, are zero.
 pub fn over_zero(row: Row, u: &[u8]) -> bool
     requires { ⌜ T (goodRow row) × (length (now u) ≡ row .k) ⌝ }
-    ensures { λ r. ⌜ r ≡ allZero (bitsOver (codingOf row) (map isOne (now (u .entry)))) ⌝ }
+    ensures { λ r. ⌜ r ≡ allZero (overPart row (map isOne (now (u .entry)))) ⌝ }
 {
     let end = links::open_bits(row);
     for i in links::bytes_held(row) * 8..end {

@@ -1,5 +1,5 @@
 -- Bits travel one to a byte, with the byte 0 or 1 (document 01, "What the module does"): the two maps at that boundary.
-use mathlib.Core.Bool.{Bool, true, false}
+use mathlib.Core.Bool.{Bool, true, false, not}
 use mathlib.Core.List.{List}
 use Prim.Native.Nat.{ℕ}
 use lib.Dec.{eqb, leb}
@@ -17,3 +17,7 @@ byte false = 0
 -- every byte is 0 or 1
 abbrev pub allBits : List ℕ → Bool
 allBits bytes = every (λ x. leb x 1) bytes
+
+-- every bit is 0
+unfoldable pub allZero : List Bool → Bool
+allZero row = every not row

@@ -3,9 +3,8 @@ use mathlib.Core.Bool.{Bool, false}
 use mathlib.Core.List.{List, [], _∷_, _++_}
 use Prim.Native.Nat.{ℕ, zero, suc}
 use lib.Dec.{ltb}
-use lib.ListN.{length, take, drop, replicate}
+use lib.ListN.{take, drop, replicate}
 use Rattle.lists.specs.Every.{every}
-use Rattle.lists.specs.Over.{over}
 use Rattle.bits.specs.Row.{highFirst, number}
 
 -- every element is a byte
@@ -24,7 +23,3 @@ filled n row = take n (row ++ replicate n false)
 unfoldable pub bytesOf : ℕ → List Bool → List ℕ
 bytesOf zero row = []
 bytesOf (suc m) row = number (take 8 row) ∷ bytesOf m (drop 8 row)
-
--- a datagram with bits laid over its own from bit `at` on
-unfoldable pub packedOver : ℕ → List Bool → List ℕ → List ℕ
-packedOver at bits datagram = bytesOf (length datagram) (over at bits (bitsOf datagram))

@@ -1,5 +1,5 @@
 pub mod Bits
 pub mod Datagram
 pub mod Row
-pub mod Weave
 pub mod Xor
+pub mod working

@@ -1,67 +1,72 @@
 -- What is answered for the candidate, by the tests that the reader makes in turn.
 -- Assumes nothing.
 use mathlib.Core.Path.{_≡_, refl, sym, ap, _∙_}
-use mathlib.Core.Bool.{Bool, true, false, cond}
+use mathlib.Core.Bool.{Bool, true, false, cond, true≢false}
 use mathlib.Core.List.{List, map}
-use mathlib.Core.Option.{none, some}
-use Prim.Native.Nat.{ℕ}
+use mathlib.Core.Option.{Option, none, some, Option·none-ne-some}
+use Prim.Native.Nat.{ℕ, _≤_}
+use native.Mathlib.Omega.{arith}
 use lib.Dec.{T, leb}
 use lib.ListN.{length, length-map}
+use borrow.Author.Tests.{leb-true, leb-false}
 use Rattle.answers.specs.Numbers.{noBlock}
-use Rattle.bits.specs.Bits.{isOne, byte}
+use Rattle.bits.specs.Bits.{isOne, byte, allZero}
 use Rattle.bits.specs.Row.{differences}
 use Rattle.bits.proofs.Bits.{bits-bytes}
 use Rattle.links.specs.declared.Row.{Row}
-use Rattle.links.specs.Good.{goodRow}
+use Rattle.links.specs.working.Good.{goodRow}
 use Rattle.links.specs.Sizes.{imageLength}
-use Rattle.distance.specs.Coding.{received}
-use Rattle.distance.specs.Valid.{allZero, bitsOver}
-use Rattle.distance.specs.Reading.{readByTrying, candidate, passing, accepted, readByCandidate}
-use Rattle.distance.proofs.OneCandidate.{one-candidate}
-use Rattle.blocks.specs.Block.{imageOf, datagramOf}
-use Rattle.blocks.specs.Coding.{codingOf}
-use Rattle.blocks.specs.Calls.{refused, reading, answered}
-use Rattle.blocks.proofs.Sound.{sound, image-is}
-use Rattle.accepting.specs.Within.{within}
-use Rattle.block_reader.specs.Mends.{Mends}
+use Rattle.distance.specs.working.Candidate.{candidate}
+use Rattle.distance.proofs.Candidate.{candidate-closes}
+use Rattle.blocks.specs.Block.{imageOf}
+use Rattle.blocks.specs.Near.{overPart, Near}
+use Rattle.blocks.specs.Reading.{received, readByTrying}
+use Rattle.blocks.specs.Calls.{refused, answered}
+use Rattle.blocks.proofs.Exact.{near-candidate, exact}
+use Rattle.blocks.proofs.Valid.{valid-from, valid-over}
+use Rattle.accepting.specs.working.Within.{within}
+use Rattle.block_reader.specs.working.Mends.{Mends}
 
-module _ (row : Row) (good : T (goodRow row)) (came : List Bool) where
-  -- ---- a block that closes
-  module _ (v : List Bool) where
-    tested-over : allZero (bitsOver (codingOf row) v) ≡ false → answered row came (passing (accepted (codingOf row) came) (some v)) ≡ refused noBlock
-    unfolding passing accepted answered
-    tested-over o = rw o
+module _ (row : Row) (good : T (goodRow row)) (came : List Bool) (size : length came ≡ imageLength row) (u new : List ℕ) (closes : Bool)
+    (k-bits : u ≡ map byte (received row came)) (mended : Mends (map isOne u) new closes) where
+  made : candidate (received row came) ≡ cond closes (some (map isOne new)) none
+  made = ap candidate (sym (ap (map isOne) k-bits ∙ bits-bytes (received row came))) ∙ mended .made
 
-    by-nearness : (near : Bool) → answered row came (cond near (some v) none) ≡ cond near (reading (datagramOf row v) (differences (imageOf row v) came)) (refused noBlock)
-    unfolding answered
-    by-nearness true = refl
-    by-nearness false = refl
+  -- what is near is the candidate
+  none-near : ((v : List Bool) → candidate (received row came) ≡ some v → Near row came v → ⊥) → answered row came (readByTrying row came) ≡ refused noBlock
+  unfolding answered
+  none-near far = decided (readByTrying row came) refl
+    where
+      decided : (found : Option (List Bool)) → readByTrying row came ≡ found → answered row came found ≡ refused noBlock
+      decided none e = refl
+      decided (some v) e = let n = exact row good came size v .0 e in absurd (far v (near-candidate row good came size v n) n)
 
-    tested-near : length v ≡ row .k → allZero (bitsOver (codingOf row) v) ≡ true → answered row came (passing (accepted (codingOf row) came) (some v)) ≡ within 1 noBlock row came v
-    unfolding passing accepted within
-    tested-near long o = rw (o, image-is row good v long) (by-nearness (leb (differences (imageOf row v) came) 1))
+  pub none-closes : closes ≡ false → answered row came (readByTrying row came) ≡ refused noBlock
+  none-closes open-ended = none-near (λ v c n. Option·none-ne-some v (sym (made ∙ rw open-ended) ∙ c))
 
-  -- ---- the candidate of what came
-  module _ (size : length came ≡ imageLength row) (u new : List ℕ) (closes : Bool)
-      (k-bits : u ≡ map byte (received (codingOf row) came)) (mended : Mends (map isOne u) new closes) where
-    by-candidate : answered row came (readByTrying (codingOf row) came) ≡ answered row came (passing (accepted (codingOf row) came) (cond closes (some (map isOne new)) none))
-    unfolding codingOf readByCandidate
-    by-candidate =
-        let bits : received (codingOf row) came ≡ map isOne u = sym (ap (map isOne) k-bits ∙ bits-bytes (received (codingOf row) came)) in
-        ap (answered row came)
-        (one-candidate (codingOf row) (sound row good) came size ∙ ap (passing (accepted (codingOf row) came)) (ap candidate bits ∙ mended .made))
+  module _ (closed : closes ≡ true) where
+    only : candidate (received row came) ≡ some (map isOne new)
+    only = made ∙ rw closed
 
-    pub none-closes : closes ≡ false → answered row came (readByTrying (codingOf row) came) ≡ refused noBlock
-    unfolding answered passing
-    none-closes e = by-candidate ∙ rw e
+    same : (v : List Bool) → candidate (received row came) ≡ some v → v ≡ map isOne new
+    same v c = let e : some v ≡ some (map isOne new) = sym c ∙ only in cc
 
-    module _ (closed : closes ≡ true) where
-      by-closed : answered row came (readByTrying (codingOf row) came) ≡ answered row came (passing (accepted (codingOf row) came) (some (map isOne new)))
-      by-closed = by-candidate ∙ rw closed
+    pub over-refused : allZero (overPart row (map isOne new)) ≡ false → answered row came (readByTrying row came) ≡ refused noBlock
+    over-refused over =
+        none-near (λ v c n. true≢false (sym (valid-over row v (n .right)) ∙ ap (λ (w : List Bool). allZero (overPart row w)) (same v c) ∙ over))
 
-      pub over-refused : allZero (bitsOver (codingOf row) (map isOne new)) ≡ false → answered row came (readByTrying (codingOf row) came) ≡ refused noBlock
-      over-refused o = by-closed ∙ tested-over (map isOne new) o
+    module _ (long : length new ≡ row .k) (zero : allZero (overPart row (map isOne new)) ≡ true) where
+      near : differences (imageOf row (map isOne new)) came ≤ 1 → Near row came (map isOne new)
+      near h = record { right = valid-from row (map isOne new) (length-map new isOne ∙ long) (candidate-closes _ _ only .1) zero; within = h }
 
-      pub within-one : length new ≡ row .k → allZero (bitsOver (codingOf row) (map isOne new)) ≡ true
-          → answered row came (readByTrying (codingOf row) came) ≡ within 1 noBlock row came (map isOne new)
-      within-one long o = by-closed ∙ tested-near (map isOne new) (length-map new isOne ∙ long) o
+      pub within-one : answered row came (readByTrying row came) ≡ within 1 noBlock row came (map isOne new)
+      unfolding answered within
+      within-one = decided (leb wrong 1) refl
+        where
+          wrong : ℕ
+          wrong = differences (imageOf row (map isOne new)) came
+
+          decided : (b : Bool) → leb wrong 1 ≡ b → answered row came (readByTrying row came) ≡ within 1 noBlock row came (map isOne new)
+          decided true e = rw (e, exact row good came size (map isOne new) .1 (near (leb-true wrong 1 e)))
+          decided false e =
+              rw e (none-near (λ v c n. let far = leb-false wrong 1 e in omega (arith, n .within, ap (λ (w : List Bool). differences (imageOf row w) came) (same v c))))

@@ -14,10 +14,10 @@ use Rattle.lists.proofs.Tests.{both-true}
 use Rattle.bits.specs.Bits.{isOne, allBits}
 use Rattle.bits.specs.Row.{flip}
 use Rattle.check32.specs.Check.{register}
-use Rattle.check32.specs.Residue.{bitsAfter}
-use Rattle.distance.specs.Reading.{wrongAfter, wrongPlace}
+use Rattle.check32.specs.working.Marks.{bitsAfter}
+use Rattle.distance.specs.working.Candidate.{wrongAfter, wrongPlace}
 use Rattle.distance.proofs.Candidate.{candidate-row, candidate-flip, candidate-none}
-use Rattle.block_reader.specs.Mends.{Mends}
+use Rattle.block_reader.specs.working.Mends.{Mends}
 
 -- ---- a bit inverted in its byte
 inverted : (x : ℕ) → x ≤ 1 → isOne (1 - x) ≡ not (isOne x)

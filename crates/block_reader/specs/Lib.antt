@@ -1,1 +1,1 @@
-pub mod Mends
+pub mod working

@@ -17,7 +17,7 @@ use Rattle.bits.proofs.Bits.{bits-bytes}
 use Rattle.bits.proofs.Filled.{length-filled}
 use Rattle.check32.specs.Check.{register, checkBits}
 use Rattle.links.specs.declared.Row.{Row}
-use Rattle.links.specs.Good.{goodRow}
+use Rattle.links.specs.working.Good.{goodRow}
 use Rattle.links.specs.Sizes.{openBits}
 use Rattle.blocks.specs.Block.{opening, blockOf}
 use Rattle.blocks.proofs.Blocks.{length-block}

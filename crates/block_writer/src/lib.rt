@@ -8,9 +8,9 @@ ghost use lib.Dec.{T};
 ghost use lib.ListN.{length};
 ghost use Rattle.answers.specs.Outcome.{Wrote};
 ghost use Rattle.bits.specs.Bits.{byte};
-ghost use Rattle.links.specs.Good.{goodRow};
+ghost use Rattle.links.specs.working.Good.{goodRow};
 ghost use Rattle.links.specs.Sizes.{bytesHeld, imageLength};
-ghost use Rattle.lists.specs.Over.{Lays};
+ghost use Rattle.lists.specs.working.Laying.{Lays};
 ghost use Rattle.blocks.specs.Block.{blockOf, imageOf};
 ghost use Rattle.blocks.specs.Calls.{writeBlock};
 

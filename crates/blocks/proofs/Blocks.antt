@@ -11,24 +11,21 @@ use lib.ListN.{length, take, drop, replicate, length-append, length-drop, length
 use lib.Seq.{take-at, take-take, length-take-le}
 use borrow.Author.Tests.{not-true}
 use Rattle.lists.proofs.Every.{every-replicate, every-only}
-use Rattle.bits.specs.Bits.{byte}
+use Rattle.bits.specs.Bits.{byte, allZero}
 use Rattle.bits.specs.Datagram.{bitsOf, filled, bytesOf, allBytes}
 use Rattle.bits.proofs.Datagram.{length-bitsOf, length-bytesOf, bytesOf-take, bytesOf-append, bytesOf-small, bitsOf-bytesOf, datagram-back}
 use Rattle.bits.proofs.Filled.{length-filled, filled-fits, drop-filled}
 use Rattle.bits.proofs.Row.{length-highFirst}
 use Rattle.check32.specs.Check.{register, checkBits}
 use Rattle.check32.proofs.Closing.{closed, check-only}
-use Rattle.distance.specs.Valid.{allZero, bitsOver, valid}
-use Rattle.distance.proofs.Valid.{valid-from, valid-closes, valid-over}
 use Rattle.links.specs.declared.Row.{Row}
-use Rattle.links.specs.Good.{goodRow}
+use Rattle.links.specs.working.Good.{goodRow}
 use Rattle.links.specs.Sizes.{openBits, bytesHeld, imageLength}
 use Rattle.links.proofs.Facts.{sizes}
 use Rattle.blocks.specs.Block.{opening, blockOf, imageOf, datagramOf, zeroFilled}
-use Rattle.blocks.specs.Coding.{codingOf}
-use Rattle.blocks.specs.Near.{Valid}
-use Rattle.blocks.proofs.Exact.{length-valid}
+use Rattle.blocks.specs.Near.{overPart, Valid}
 use Rattle.blocks.proofs.Sound.{length-image}
+use Rattle.blocks.proofs.Valid.{valid-from, valid-length, valid-closes, valid-over}
 
 pub length-datagram : (row : Row) (u : List Bool) → length (datagramOf row u) ≡ bytesHeld row
 unfolding datagramOf
@@ -58,8 +55,8 @@ module _ (row : Row) (good : T (goodRow row)) (datagram : List ℕ) where
 
   module _ (fits : length datagram ≤ bytesHeld row) where
     -- the bits over are zero
-    over-zero : allZero (bitsOver (codingOf row) (blockOf row datagram)) ≡ true
-    unfolding codingOf blockOf allZero
+    over-zero : allZero (overPart row (blockOf row datagram)) ≡ true
+    unfolding blockOf allZero
     over-zero =
         rw (
           take-at (opening row datagram) (checkBits (opening row datagram)) (openBits row) length-opening,
@@ -68,9 +65,9 @@ module _ (row : Row) (good : T (goodRow row)) (datagram : List ℕ) where
         (every-replicate not (openBits row - bytesHeld row * 8) false refl)
 
     -- the check closes it
-    pub block-valid : valid (codingOf row) (blockOf row datagram) ≡ true
-    unfolding codingOf blockOf
-    block-valid = valid-from (codingOf row) (blockOf row datagram) length-block (closed (opening row datagram)) over-zero
+    pub block-valid : Valid row (blockOf row datagram)
+    unfolding blockOf
+    block-valid = valid-from row (blockOf row datagram) length-block (closed (opening row datagram)) over-zero
 
     -- and its datagram comes back, filled with zero bytes
     pub datagram-in-block : allBytes datagram ≡ true → datagramOf row (blockOf row datagram) ≡ zeroFilled row datagram
@@ -84,9 +81,9 @@ module _ (row : Row) (good : T (goodRow row)) (datagram : List ℕ) where
 module _ (row : Row) (good : T (goodRow row)) (u : List Bool) (v : Valid row u) where
   -- before the check stand the bits of its datagram, and then zeros
   valid-opening : take (openBits row) u ≡ opening row (datagramOf row u)
-  unfolding codingOf datagramOf allZero
+  unfolding datagramOf allZero
   valid-opening =
-      let long = length-valid row good u v in
+      let long = valid-length row u v in
       let m = bytesHeld row in
       let n = openBits row in
       let room : m * 8 ≤ n = omega (arith, sizes row good .whole) in
@@ -94,7 +91,7 @@ module _ (row : Row) (good : T (goodRow row)) (u : List Bool) (v : Valid row u) 
       let bytes : length (take (m * 8) u) ≡ m * 8 = length-take-le (m * 8) u (omega arith) in
       let held : bitsOf (bytesOf m u) ≡ take (m * 8) u = ap bitsOf (sym (bytesOf-take m u)) ∙ bitsOf-bytesOf m (take (m * 8) u) bytes in
       let left : length (drop (m * 8) (take n u)) ≡ n - length (take (m * 8) u) = length-drop (m * 8) (take n u) ∙ ap₂ _-_ size (sym bytes) in
-      let zeros = every-only not false not-true (drop (m * 8) (take n u)) (valid-over (codingOf row) u v) in
+      let zeros = every-only not false not-true (drop (m * 8) (take n u)) (valid-over row u v) in
       sym (take-append-drop (m * 8) (take n u))
       ∙ ap₂ _++_ (take-take (m * 8) n u room) (zeros ∙ ap (λ (k : ℕ). replicate k false) left)
       ∙ sym (filled-fits n (take (m * 8) u) (omega arith))
@@ -106,7 +103,7 @@ module _ (row : Row) (good : T (goodRow row)) (u : List Bool) (v : Valid row u) 
       let before = take (openBits row) u in
       let check = drop (openBits row) u in
       let whole : before ++ check ≡ u = take-append-drop (openBits row) u in
-      let size : length check ≡ 32 = length-drop (openBits row) u ∙ omega (arith, length-valid row good u v, sizes row good .check) in
+      let size : length check ≡ 32 = length-drop (openBits row) u ∙ omega (arith, valid-length row u v, sizes row good .check) in
       sym whole
-      ∙ ap (λ (l : List Bool). before ++ l) (check-only before check size (ap register whole ∙ valid-closes (codingOf row) u v))
+      ∙ ap (λ (l : List Bool). before ++ l) (check-only before check size (ap register whole ∙ valid-closes row u v))
       ∙ ap (λ (l : List Bool). l ++ checkBits l) valid-opening

@@ -8,10 +8,9 @@ use lib.ListN.{length}
 use borrow.Author.Tests.{lt-ltb, le-ltb, eq-eqb, ne-eqb}
 use Rattle.answers.specs.Numbers.{notOffered, wrongLength, noRoom, noBit}
 use Rattle.bits.specs.Bits.{isOne, allBits}
-use Rattle.distance.specs.Reading.{readByTrying}
 use Rattle.links.specs.Rows.{offered, rowOf}
 use Rattle.links.specs.Sizes.{bytesHeld, imageLength}
-use Rattle.blocks.specs.Coding.{codingOf}
+use Rattle.blocks.specs.Reading.{readByTrying}
 use Rattle.blocks.specs.Calls.{readBlock, refused, answered}
 
 module _ (link : ℕ) (bits : List ℕ) (room : ℕ) where
@@ -35,6 +34,6 @@ module _ (link : ℕ) (bits : List ℕ) (room : ℕ) where
         read-no-bit h = rw (o, eq-eqb (length bits) (imageLength (rowOf link)) size, le-ltb room (bytesHeld (rowOf link)) fits, h)
 
         pub read-tried : allBits bits ≡ true
-            → readBlock link bits room ≡ answered (rowOf link) (map isOne bits) (readByTrying (codingOf (rowOf link)) (map isOne bits))
+            → readBlock link bits room ≡ answered (rowOf link) (map isOne bits) (readByTrying (rowOf link) (map isOne bits))
         unfolding readBlock
         read-tried h = rw (o, eq-eqb (length bits) (imageLength (rowOf link)) size, le-ltb room (bytesHeld (rowOf link)) fits, h)

@@ -2,5 +2,8 @@ pub mod Answered
 pub mod Blocks
 pub mod Calls
 pub mod Exact
+pub mod Received
 pub mod Sound
+pub mod Trying
+pub mod Valid
 pub mod WaysOfReading

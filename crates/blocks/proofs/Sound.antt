@@ -9,10 +9,10 @@ use native.Mathlib.Omega.{arith}
 use lib.Dec.{T}
 use lib.ListN.{length}
 use Rattle.bits.specs.Xor.{xorRows}
-use Rattle.distance.specs.Coding.{Sound, coded as woven, image}
+use Rattle.distance.specs.working.Coding.{Sound, coded as woven, image}
 use Rattle.distance.proofs.Weave.{length-image as coding-length-image}
 use Rattle.links.specs.declared.Row.{Row}
-use Rattle.links.specs.Good.{goodRow}
+use Rattle.links.specs.working.Good.{goodRow}
 use Rattle.links.specs.Sizes.{imageLength}
 use Rattle.links.proofs.Facts.{sizes}
 use Rattle.turbo.specs.Coded.{coded}
@@ -21,7 +21,7 @@ use Rattle.turbo.proofs.Weave.{coded-weave, parity-counts, length-counts}
 use Rattle.scrambler.specs.Scrambler.{loaded, sequence}
 use Rattle.scrambler.proofs.Sequence.{length-sequence}
 use Rattle.blocks.specs.Block.{imageOf}
-use Rattle.blocks.specs.Coding.{codingOf}
+use Rattle.blocks.specs.working.Coding.{codingOf}
 
 module _ (row : Row) (good : T (goodRow row)) where
   long-enough : (u : List Bool) → length u ≡ row .k → length (woven (codingOf row) u) ≡ imageLength row

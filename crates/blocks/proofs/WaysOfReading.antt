@@ -11,16 +11,15 @@ use borrow.Author.Tests.{eqb-true, eqb-false, ltb-true, ltb-false}
 use Rattle.answers.specs.Numbers.{notOffered, wrongLength, noRoom, noBit, noBlock}
 use Rattle.bits.specs.Bits.{isOne, allBits}
 use Rattle.bits.specs.Row.{differences}
-use Rattle.distance.specs.Reading.{readByTrying}
 use Rattle.links.specs.Rows.{offered, rowOf}
 use Rattle.links.specs.Sizes.{bytesHeld, imageLength}
 use Rattle.links.proofs.Good.{good}
 use Rattle.blocks.specs.Block.{imageOf, datagramOf}
-use Rattle.blocks.specs.Coding.{codingOf}
 use Rattle.blocks.specs.Near.{Near}
+use Rattle.blocks.specs.Reading.{readByTrying}
 use Rattle.blocks.specs.Calls.{readBlock, refused, reading, answered}
 use Rattle.blocks.proofs.Calls.{read-unoffered, read-length, read-short, read-no-bit, read-tried}
-use Rattle.blocks.proofs.Exact.{read-near, none-read}
+use Rattle.blocks.proofs.Exact.{exact, none-read}
 
 pub data Reading (link : ℕ) (bits : List ℕ) (room : ℕ) : Type 0 where
   unoffered : offered link ≡ false → readBlock link bits room ≡ refused notOffered → Reading link bits room
@@ -44,12 +43,12 @@ reading-goes link bits room = decided (offered link) (eqb (length bits) size) (l
     size = imageLength (rowOf link)
 
     tried : (o : offered link ≡ true) → length bits ≡ imageLength (rowOf link) → bytesHeld (rowOf link) ≤ room → allBits bits ≡ true
-        → (found : Option (List Bool)) → readByTrying (codingOf (rowOf link)) (map isOne bits) ≡ found → Reading link bits room
+        → (found : Option (List Bool)) → readByTrying (rowOf link) (map isOne bits) ≡ found → Reading link bits room
     tried o s r a none e =
         none-near o s r a (none-read (rowOf link) (good link o) (map isOne bits) (length-map bits isOne ∙ s) e)
         (read-tried link bits room o s r a ∙ ap (answered (rowOf link) (map isOne bits)) e)
     tried o s r a (some u) e =
-        reads o s r a u (read-near (rowOf link) (good link o) (map isOne bits) (length-map bits isOne ∙ s) u e)
+        reads o s r a u (exact (rowOf link) (good link o) (map isOne bits) (length-map bits isOne ∙ s) u .0 e)
         (read-tried link bits room o s r a ∙ ap (answered (rowOf link) (map isOne bits)) e)
 
     decided : (o sized short all : Bool) → offered link ≡ o → eqb (length bits) size ≡ sized → ltb room held ≡ short → allBits bits ≡ all → Reading link bits room
@@ -66,4 +65,4 @@ reading-goes link bits room = decided (offered link) (eqb (length bits) size) (l
         let h = ltb-false room held r in
         no-bits o l h a (read-no-bit link bits room o l h a)
     decided true true false true o s r a =
-        tried o (eqb-true (length bits) size s) (ltb-false room held r) a (readByTrying (codingOf (rowOf link)) (map isOne bits)) refl
+        tried o (eqb-true (length bits) size s) (ltb-false room held r) a (readByTrying (rowOf link) (map isOne bits)) refl

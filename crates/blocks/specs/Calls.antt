@@ -11,13 +11,12 @@ use Rattle.answers.specs.Outcome.{Outcome}
 use Rattle.answers.specs.Task.{Task, writeTask}
 use Rattle.bits.specs.Bits.{isOne, byte, allBits}
 use Rattle.bits.specs.Row.{differences}
-use Rattle.distance.specs.Reading.{readByTrying}
 use Rattle.links.specs.declared.Row.{Row}
 use Rattle.links.specs.Rows.{offered, rowOf}
 use Rattle.links.specs.Sizes.{bytesHeld, imageLength}
 use Rattle.blocks.specs.declared.Block.{Block}
 use Rattle.blocks.specs.Block.{blockOf, imageOf, datagramOf}
-use Rattle.blocks.specs.Coding.{codingOf}
+use Rattle.blocks.specs.Reading.{readByTrying}
 
 -- ---- writing, in the order 1, 2, 3
 abbrev pub blockTask : ℕ → List ℕ → Task
@@ -51,7 +50,7 @@ readBlock link bits room =
     cond (offered link)
     (cond (eqb (length bits) (imageLength (rowOf link)))
     (cond (ltb room (bytesHeld (rowOf link))) (refused noRoom)
-    (cond (allBits bits) (answered (rowOf link) (map isOne bits) (readByTrying (codingOf (rowOf link)) (map isOne bits)))
+    (cond (allBits bits) (answered (rowOf link) (map isOne bits) (readByTrying (rowOf link) (map isOne bits)))
     (refused noBit)))
     (refused wrongLength))
     (refused notOffered)

@@ -1,4 +1,5 @@
 pub mod Block
 pub mod Calls
-pub mod Coding
 pub mod Near
+pub mod Reading
+pub mod working

@@ -1,17 +1,28 @@
--- What demand 3 says of a block: a valid block's image differs from what came in at most one place.
+-- A valid block of a link (document 01, "From datagram to block"), and what demand 3 says of one: its image differs from what came in at
+-- most one place.
 use mathlib.Core.Path.{_≡_}
-use mathlib.Core.Bool.{Bool, true}
+use mathlib.Core.Bool.{Bool, true, _&&_}
 use mathlib.Core.List.{List}
-use Prim.Native.Nat.{_≤_}
+use Prim.Native.Nat.{_*_, _≤_}
+use lib.Dec.{eqb}
+use lib.ListN.{length, take, drop}
+use Rattle.bits.specs.Bits.{allZero}
 use Rattle.bits.specs.Row.{differences}
-use Rattle.distance.specs.Valid.{valid}
+use Rattle.check32.specs.Check.{register}
 use Rattle.links.specs.declared.Row.{Row}
+use Rattle.links.specs.Sizes.{openBits, bytesHeld}
 use Rattle.blocks.specs.Block.{imageOf}
-use Rattle.blocks.specs.Coding.{codingOf}
 
--- a valid block of a link: k bits, the check right, the bits over zero
+-- the part over, behind the datagram's bits and before the check: four bits on link 12
+abbrev pub overPart : Row → List Bool → List Bool
+overPart row u = drop (bytesHeld row * 8) (take (openBits row) u)
+
+-- k bits, the check right, the part over zero
+unfoldable pub valid : Row → List Bool → Bool
+valid row u = eqb (length u) (row .k) && (eqb (register u) 0 && allZero (overPart row u))
+
 abbrev pub Valid : Row → List Bool → Type 0
-Valid row u = valid (codingOf row) u ≡ true
+Valid row u = valid row u ≡ true
 
 pub record Near (row : Row) (came u : List Bool) : Type 0 where
   pub right : Valid row u

@@ -9,7 +9,7 @@ use lib.ListN.{getD}
 use Rattle.lists.proofs.Line.{line}
 use Rattle.bits.specs.Row.{highFirst}
 use Rattle.bits.specs.Xor.{_⊕_}
-use Rattle.check32.specs.Bytes.{byteResidue, residuesFrom, byteResidues}
+use Rattle.check32.specs.working.Bytes.{byteResidue, residuesFrom, byteResidues}
 use Rattle.check32.specs.Check.{timesX, step, registerFrom}
 
 -- the entries of both halves, the low ones first in the table

@@ -12,7 +12,7 @@ use Rattle.bits.specs.Row.{flip}
 use Rattle.bits.specs.Xor.{_⊕_, xorRows}
 use Rattle.bits.proofs.Xor.{⊕-assoc, ⊕-comm, ⊕-self, ⊕-zero, zero-⊕, ⊕-middle}
 use Rattle.check32.specs.Check.{x32, timesX, step, registerFrom}
-use Rattle.check32.specs.Residue.{residue}
+use Rattle.check32.specs.working.Marks.{residue}
 use Rattle.check32.proofs.TimesX.{timesX-⊕}
 
 pub registerFrom-append : (r : ℕ) (a b : List Bool) → registerFrom r (a ++ b) ≡ registerFrom (registerFrom r a) b

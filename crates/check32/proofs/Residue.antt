@@ -11,7 +11,7 @@ use lib.Dec.{eqb, lit<}
 use borrow.Author.Tests.{eqb-true, eqb-false, eq-eqb, ne-eqb}
 use Rattle.bits.proofs.Xor.{zero-⊕}
 use Rattle.check32.specs.Check.{x32, timesX, step}
-use Rattle.check32.specs.Residue.{residue, firstResidue, bitsAfter}
+use Rattle.check32.specs.working.Marks.{residue, firstResidue, bitsAfter}
 use Rattle.check32.proofs.TimesX.{timesX-zero}
 use Rattle.check32.proofs.Word.{step-lt}
 

@@ -1,3 +1,2 @@
-pub mod Bytes
 pub mod Check
-pub mod Residue
+pub mod working

@@ -1,6 +1,6 @@
 // What a byte alone leaves in the check's register (M.2092-1, Annex 2, 1.2.5), for the check of eight bits at a time.
 ghost use mathlib.Core.Path.{_≡_};
-ghost use Rattle.check32.specs.Bytes.{byteResidues};
+ghost use Rattle.check32.specs.working.Bytes.{byteResidues};
 
 // The register, from zero, after each byte below 16, and then after each multiple of 16: a byte leaves what its two halves leave, added.
 const RESIDUES: [u32; 32] = [

@@ -5,9 +5,9 @@ ghost use mathlib.Core.Path.{_≡_};
 ghost use mathlib.Core.List.{map};
 ghost use Rattle.bits.specs.Bits.{isOne};
 ghost use Rattle.bits.specs.Row.{highFirst};
-ghost use Rattle.check32.specs.Bytes.{byteResidues};
+ghost use Rattle.check32.specs.working.Bytes.{byteResidues};
 ghost use Rattle.check32.specs.Check.{step, registerFrom, loaded};
-ghost use Rattle.check32.specs.Residue.{bitsAfter};
+ghost use Rattle.check32.specs.working.Marks.{bitsAfter};
 
 // One bit goes into the register at its high end, and the register moves up a place; the generator is added where a one falls out.
 pub fn step(r: u32, bit: bool) -> u32

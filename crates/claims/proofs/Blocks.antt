@@ -13,25 +13,23 @@ use Rattle.answers.specs.declared.Written.{Written}
 use Rattle.answers.specs.Numbers.{done, wrongLength, notOffered, noRoom, noBit, noBlock}
 use Rattle.answers.proofs.Wrote.{told}
 use Rattle.lists.proofs.Every.{every-place}
-use Rattle.bits.specs.Bits.{isOne, byte}
+use Rattle.bits.specs.Bits.{isOne, byte, allZero}
 use Rattle.bits.specs.Row.{differences, flip}
 use Rattle.bits.specs.Datagram.{allBytes}
 use Rattle.bits.proofs.Bits.{bits-bytes, all-bytes}
 use Rattle.bits.proofs.Differences.{differences-self}
 use Rattle.bits.proofs.Flip.{differences-flip, length-flip}
-use Rattle.distance.specs.Valid.{allZero}
-use Rattle.distance.proofs.Valid.{valid-over}
-use Rattle.links.specs.Good.{goodRow}
+use Rattle.links.specs.working.Good.{goodRow}
 use Rattle.links.specs.Rows.{rows, placeIn, offered, rowOf}
 use Rattle.links.specs.Sizes.{bytesHeld, imageLength}
 use Rattle.links.proofs.Good.{good}
 use Rattle.blocks.specs.declared.Block.{Block}
 use Rattle.blocks.specs.Block.{blockOf, imageOf, datagramOf, zeroFilled}
-use Rattle.blocks.specs.Coding.{codingOf}
 use Rattle.blocks.specs.Near.{Valid, Near}
 use Rattle.blocks.specs.Calls.{blockTask, readBlock, refused as refusal, reading}
 use Rattle.blocks.proofs.Answered.{near-answered, near-itself, near-flipped}
 use Rattle.blocks.proofs.Blocks.{length-datagram, datagram-bytes, long-image, block-valid, datagram-in-block, valid-block}
+use Rattle.blocks.proofs.Valid.{valid-over}
 use Rattle.blocks.proofs.WaysOfReading as r
 use Rattle.claims.specs.Calls.{WroteBlock, ReadBlock, BlockAnswer}
 use Rattle.claims.proofs.Tasks.{Met, met, done-met}
@@ -178,6 +176,6 @@ zero-at row i e = zero (getD row i false) (every-place not false row (rw e tt) t
     zero false t = refl
 
 pub over-12 : (u : List Bool) → Valid (rowOf 12) u → (i : ℕ) → i < 4 → getD u (936 + i) false ≡ false
-unfolding codingOf rows placeIn rowOf
+unfolding rows placeIn rowOf
 over-12 u v i h =
-    sym (getD-drop 936 (take 940 u) i false ∙ getD-take 940 u (936 + i) false (omega arith)) ∙ zero-at (drop 936 (take 940 u)) i (valid-over (codingOf (rowOf 12)) u v)
+    sym (getD-drop 936 (take 940 u) i false ∙ getD-take 940 u (936 + i) false (omega arith)) ∙ zero-at (drop 936 (take 940 u)) i (valid-over (rowOf 12) u v)

@@ -11,7 +11,7 @@ use Rattle.links.specs.Sizes.{bytesHeld}
 use Rattle.messages.specs.declared.Step.{Step}
 use Rattle.messages.specs.Places.{byteAt, Fill, too-long}
 use Rattle.messages.specs.Step as step
-use Rattle.messages.specs.Stepping.{Stepping, past, ends, spoils, breaks, finds}
+use Rattle.messages.specs.working.Stepping.{Stepping, past, ends, spoils, breaks, finds}
 use Rattle.messages.specs.Tiling.{Tiles, bytesOf}
 use Rattle.messages.specs.Walk.{Walks}
 use Rattle.messages.proofs.Stepping.{step-goes, broken-exact}

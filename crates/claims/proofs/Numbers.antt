@@ -23,7 +23,7 @@ use Rattle.slots.specs.Burst.{blockPart, isSlotLink}
 use Rattle.slots.proofs.WaysOfReading as rs
 use Rattle.messages.specs.declared.Step.{Step}
 use Rattle.messages.specs.Step.{refused, stepMessage}
-use Rattle.messages.specs.Stepping.{Stepping, past, ends, spoils, breaks, finds}
+use Rattle.messages.specs.working.Stepping.{Stepping, past, ends, spoils, breaks, finds}
 use Rattle.messages.proofs.Stepping.{past-exact, broken-exact, spoilt-exact}
 use Rattle.claims.specs.Lines.{Lines, line, Given}
 use Rattle.claims.specs.Calls as calls

@@ -6,15 +6,16 @@ use Prim.Native.Nat.{ℕ, _+_, _%_, _≤_, _<_}
 use native.Mathlib.Nat.{mod-lt, mod-add-mod}
 use native.Mathlib.Omega.{arith}
 use lib.ListN.{length, getD, take}
-use Rattle.lists.specs.Over.{Room, Lays, Laying}
+use Rattle.lists.specs.Over.{Room}
+use Rattle.lists.specs.working.Laying.{Lays, Laying}
 use Rattle.lists.proofs.Over.{fits-rest, fits-piece, more-piece, last}
 use Rattle.bits.specs.Bits.{isOne, byte}
 use Rattle.turbo.specs.Encoder.{next}
 use Rattle.turbo.specs.Coded.{six, passed, ending}
 use Rattle.turbo.proofs.Passing.{flags-at}
-use Rattle.encoder.specs.Number.{registerOf, numberOf}
+use Rattle.encoder.specs.working.Number.{registerOf, numberOf}
 use Rattle.encoder.proofs.Number.{register-made, made-small}
-use Rattle.clocks.specs.Encode.{Ready, left}
+use Rattle.clocks.specs.working.Encode.{Ready, left}
 use Rattle.clocks.proofs.Left.{left-more, left-done}
 
 -- what clock s lays

@@ -13,7 +13,7 @@ use Rattle.links.specs.Patterns.{flagsAt}
 use Rattle.turbo.specs.Encoder.{Register, start, feedback, next}
 use Rattle.turbo.specs.Coded.{six, passed, alone, endingOf, ending, codedFrom}
 use Rattle.turbo.proofs.Passing.{map-passed}
-use Rattle.clocks.specs.Encode.{left}
+use Rattle.clocks.specs.working.Encode.{left}
 
 -- ---- of the ending of one encoder, the clocks of the tail from t to e
 pub ending-more : (second : Bool) (tail : List (List ℕ)) (t e : ℕ) (r after : Register) → t < e → e ≤ length tail → after ≡ next r (feedback r)

@@ -7,12 +7,13 @@ ghost use mathlib.Core.Path.{_≡_};
 ghost use mathlib.Core.List.{[], _∷_, map};
 ghost use Prim.Native.Nat.{_%_, _≤_, _<_};
 ghost use lib.ListN.{replicate};
-ghost use Rattle.lists.specs.Over.{Room, Lays};
+ghost use Rattle.lists.specs.Over.{Room};
+ghost use Rattle.lists.specs.working.Laying.{Lays};
 ghost use Rattle.bits.specs.Bits.{isOne, byte};
 ghost use Rattle.turbo.specs.Encoder.{next, y0, y1};
 ghost use Rattle.turbo.specs.Coded.{six, passed};
-ghost use Rattle.encoder.specs.Number.{registerOf, numberOf};
-ghost use Rattle.clocks.specs.Encode.{AtMostTwice};
+ghost use Rattle.encoder.specs.working.Number.{registerOf, numberOf};
+ghost use Rattle.clocks.specs.working.Encode.{AtMostTwice};
 
 // An input among 32 bits.
 fn wide(bit: u8) -> u32

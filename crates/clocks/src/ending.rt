@@ -8,12 +8,13 @@ ghost use mathlib.Core.Path.{_≡_};
 ghost use mathlib.Core.List.{map};
 ghost use Prim.Native.Nat.{_+_, _≤_, _<_};
 ghost use lib.Seq.{slice};
-ghost use Rattle.lists.specs.Over.{Room, Lays};
+ghost use Rattle.lists.specs.Over.{Room};
+ghost use Rattle.lists.specs.working.Laying.{Lays};
 ghost use Rattle.bits.specs.Bits.{byte};
 ghost use Rattle.turbo.specs.Encoder.{feedback};
 ghost use Rattle.turbo.specs.Coded.{alone, endingOf, ending};
-ghost use Rattle.encoder.specs.Number.{registerOf};
-ghost use Rattle.clocks.specs.Encode.{AllAtMostTwice};
+ghost use Rattle.encoder.specs.working.Number.{registerOf};
+ghost use Rattle.clocks.specs.working.Encode.{AllAtMostTwice};
 
 // What an encoder is fed in its ending.
 fn fed_back(register: u32) -> u8

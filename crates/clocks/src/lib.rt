@@ -10,9 +10,10 @@ use ending::end;
 ghost use mathlib.Core.Path.{_≡_};
 ghost use Prim.Native.Nat.{_+_, _%_, _≤_, _<_};
 ghost use lib.ListN.{length, take};
-ghost use Rattle.lists.specs.Over.{Room, Lays};
-ghost use Rattle.encoder.specs.Number.{registerOf};
-ghost use Rattle.clocks.specs.Encode.{Ready, left};
+ghost use Rattle.lists.specs.Over.{Room};
+ghost use Rattle.lists.specs.working.Laying.{Lays};
+ghost use Rattle.encoder.specs.working.Number.{registerOf};
+ghost use Rattle.clocks.specs.working.Encode.{Ready, left};
 
 // The next clock's place in a pattern, which begins again after `period` clocks.
 fn next_clock(c: usize, period: usize) -> usize

@@ -15,7 +15,8 @@ use Rattle.lists.specs.Over.{over}
 use Rattle.lists.proofs.Every.{each-every}
 use Rattle.lists.proofs.Over.{over-nil, over-set, over-length, over-over, over-first, over-second, over-every}
 use Rattle.bits.specs.Row.{highFirst}
-use Rattle.bits.specs.Datagram.{allBytes, bitsOf, bytesOf, packedOver}
+use Rattle.bits.specs.Datagram.{allBytes, bitsOf, bytesOf}
+use Rattle.datagrams.specs.working.Packed.{packedOver}
 use Rattle.bits.proofs.Datagram.{length-bitsOf, bitsOf-append, take-bitsOf, drop-bitsOf, length-bytesOf, bytesOf-take, bytesOf-small, bytesOf-bitsOf, bitsOf-bytesOf}
 use Rattle.bits.proofs.Row.{length-highFirst}
 

@@ -10,7 +10,8 @@ use lib.Seq.{take-take, length-take-le}
 use Rattle.lists.specs.Over.{over}
 use Rattle.lists.proofs.Parts.{drop-take, map-take, map-drop, part-rest}
 use Rattle.bits.specs.Bits.{isOne}
-use Rattle.bits.specs.Datagram.{allBytes, bytesOf, packedOver}
+use Rattle.bits.specs.Datagram.{allBytes, bytesOf}
+use Rattle.datagrams.specs.working.Packed.{packedOver}
 use Rattle.datagrams.proofs.Packed.{packed-bytes, packed-packed}
 
 -- two parts of a row, laid one behind the other

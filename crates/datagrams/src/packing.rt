@@ -7,7 +7,8 @@ ghost use Prim.Native.Nat.{_+_, _*_, _/_, _≤_};
 ghost use lib.ListN.{length, take};
 ghost use Rattle.lists.specs.Over.{over};
 ghost use Rattle.bits.specs.Bits.{isOne};
-ghost use Rattle.bits.specs.Datagram.{bytesOf, packedOver};
+ghost use Rattle.bits.specs.Datagram.{bytesOf};
+ghost use Rattle.datagrams.specs.working.Packed.{packedOver};
 ghost use Rattle.bits.specs.Row.{highFirst};
 
 // A byte with bits laid over its own from one of them on: what is before them, they, and what is behind them.

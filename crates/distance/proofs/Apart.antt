@@ -13,11 +13,11 @@ use Rattle.bits.proofs.Differences.{differences-zero}
 use Rattle.bits.proofs.Flip.{length-flip, flip-flip, nearer, OneOff, same, flipped, one-off}
 use Rattle.bits.proofs.Xor.{⊕-self, ⊕-equal}
 use Rattle.check32.specs.Check.{loaded, register, Closes}
-use Rattle.check32.specs.Residue.{residue}
+use Rattle.check32.specs.working.Marks.{residue}
 use Rattle.check32.proofs.Linear.{registerFrom-flip}
 use Rattle.check32.proofs.Residue.{residue-not-zero, bitsAfter-found, bitsAfter-first}
-use Rattle.distance.specs.Coding.{longest}
-use Rattle.distance.specs.Reading.{wrongAfter, wrongPlace}
+use Rattle.distance.specs.working.Coding.{longest}
+use Rattle.distance.specs.working.Candidate.{wrongAfter, wrongPlace}
 use Rattle.distance.proofs.Residues.{residues-differ}
 
 -- a flip closes where the residue of its place is the register

@@ -13,8 +13,8 @@ use Rattle.lists.proofs.Tests.{either}
 use Rattle.bits.specs.Row.{differences, flip}
 use Rattle.bits.proofs.Flip.{length-flip, OneOff, same, flipped, one-off}
 use Rattle.check32.specs.Check.{register, Closes}
-use Rattle.distance.specs.Coding.{longest}
-use Rattle.distance.specs.Reading.{wrongAfter, wrongPlace, candidate, passing}
+use Rattle.distance.specs.working.Coding.{longest}
+use Rattle.distance.specs.working.Candidate.{wrongAfter, wrongPlace, candidate}
 use Rattle.distance.proofs.Apart.{closes-alone, flip-told, told-closes}
 
 -- ---- the three ways it goes
@@ -54,16 +54,3 @@ candidate-found row a s l c h = goes (one-off a row l h)
         let closes = ap register (sym e) ∙ c in
         let told = flip-told row i s h closes in
         candidate-flip row (λ d. closes-alone row i h d closes) (told .0) ∙ ap some (ap (λ (n : ℕ). flip n row) (sym (told .1)) ∙ sym e)
-
--- ---- what a test leaves of it
-pub passing-some : (test : List Bool → Bool) (o : Option (List Bool)) (a : List Bool) → passing test o ≡ some a → (o ≡ some a) × (test a ≡ true)
-unfolding passing
-passing-some test none a e = absurd (Option·none-ne-some a e)
-passing-some test (some x) a e = ⊎-elim (λ w. passed (w .0) (w .1)) (λ w. absurd (Option·none-ne-some a (w .1))) (either (test x) e)
-  where
-    passed : test x ≡ true → some x ≡ some a → (some x ≡ some a) × (test a ≡ true)
-    passed t e = let equal : x ≡ a = cc in (e, rw equal at t)
-
-pub some-passing : (test : List Bool → Bool) (o : Option (List Bool)) (a : List Bool) → o ≡ some a → test a ≡ true → passing test o ≡ some a
-unfolding passing
-some-passing test o a e t = rw (e, t)

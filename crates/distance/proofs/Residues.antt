@@ -9,11 +9,11 @@ use native.Mathlib.Omega.{arith}
 use lib.Dec.{T, T-not, eqb, eqb-refl}
 use Rattle.lists.proofs.Tests.{both-left, both-right}
 use Rattle.check32.specs.Check.{x32}
-use Rattle.check32.specs.Residue.{residue}
+use Rattle.check32.specs.working.Marks.{residue}
 use Rattle.check32.proofs.Fast.{fastStep, fastStep-is}
 use Rattle.check32.proofs.Residue.{residue-start, residue-next, residue-lt}
 use Rattle.check32.proofs.TimesX.{timesX-equal}
-use Rattle.distance.specs.Coding.{longest}
+use Rattle.distance.specs.working.Coding.{longest}
 
 -- none of n residues, the first of them r, is the last place's
 walk : ℕ → ℕ → Bool

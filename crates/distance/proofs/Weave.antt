@@ -13,8 +13,8 @@ use Rattle.bits.specs.Row.{differences}
 use Rattle.bits.specs.Xor.{xorRows}
 use Rattle.bits.proofs.Differences.{differences-drop}
 use Rattle.bits.proofs.XorRows.{length-xorRows, xorRows-twice, differences-xorRows}
-use Rattle.bits.specs.Weave.{weave}
-use Rattle.distance.specs.Coding.{Coding, Sound, xBits, coded, image, received}
+use Rattle.bits.specs.working.Weave.{weave}
+use Rattle.distance.specs.working.Coding.{Coding, Sound, xBits, coded, image, received}
 
 -- ---- the bits X
 xBits-weave : (xs : List Bool) (parity : List (List Bool)) (tail : List Bool) → length xs ≡ length parity → xBits (map length parity) (weave xs parity tail) ≡ xs

@@ -1,3 +1,1 @@
-pub mod Coding
-pub mod Reading
-pub mod Valid
+pub mod working

@@ -18,8 +18,8 @@ use Rattle.bits.proofs.Row.{number-lt}
 use Rattle.bits.proofs.Xor.{⊕-assoc, ⊕-comm, ⊕-left-comm, ⊕-self, zero-⊕, ⊕-zero, ⊕-lt, ⊕-middle}
 use Rattle.turbo.specs.Encoder.{Register, fed, next}
 use Rattle.turbo.specs.Outputs.{outputs}
-use Rattle.encoder.specs.Number.{numberOf}
-use Rattle.encoder.specs.Fed.{fedOn}
+use Rattle.encoder.specs.working.Number.{numberOf}
+use Rattle.encoder.specs.working.Fed.{fedOn}
 use Rattle.encoder.proofs.Taps.{input, tapsX, shifts-x, taps, on-split, length-outputs, number-small}
 
 ⊕-shr : (k a b : ℕ) → (a ⊕ b) / 2 ^ k ≡ a / 2 ^ k ⊕ b / 2 ^ k

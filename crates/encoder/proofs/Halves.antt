@@ -11,7 +11,7 @@ use Rattle.bits.specs.Bits.{isOne, byte, allBits}
 use Rattle.bits.specs.Row.{highFirst, numberOn, number}
 use Rattle.bits.proofs.Bits.{byte-isOne, bit-low}
 use Rattle.bits.proofs.Row.{highFirst-number}
-use Rattle.encoder.specs.Inputs.{clocksAt}
+use Rattle.encoder.specs.working.Inputs.{clocksAt}
 use Rattle.encoder.proofs.Taps.{on-split}
 
 on-append : (w : ℕ) (xs ys : List Bool) → numberOn w (xs ++ ys) ≡ numberOn (numberOn w xs) ys

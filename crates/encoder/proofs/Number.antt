@@ -9,7 +9,7 @@ use Rattle.lists.proofs.Line.{upto, square}
 use Rattle.bits.specs.Bits.{isOne, byte}
 use Rattle.bits.proofs.Bits.{byte-lt, isOne-byte}
 use Rattle.turbo.specs.Encoder.{Register, feedback, next}
-use Rattle.encoder.specs.Number.{registerOf, numberOf}
+use Rattle.encoder.specs.working.Number.{registerOf, numberOf}
 
 -- two functions of a register and an input that agree wherever antt computes them, agree
 pub agree : (f g : ℕ → ℕ → ℕ) → T (upto 8 (λ r. upto 2 (λ u. eqb (f r u) (g r u)))) → (r u : ℕ) → r < 8 → u ≤ 1 → f r u ≡ g r u

@@ -16,9 +16,9 @@ use Rattle.bits.proofs.Row.{number-lt}
 use Rattle.bits.proofs.Xor.{⊕-is, ⊕-bits}
 use Rattle.turbo.specs.Encoder.{Register, fed, next, y0, y1}
 use Rattle.turbo.specs.Outputs.{outputs}
-use Rattle.turbo.specs.Parity.{registerAfter}
-use Rattle.encoder.specs.Number.{numberOf}
-use Rattle.encoder.specs.Fed.{fedOn, Taps, Last}
+use Rattle.turbo.specs.working.Parity.{registerAfter}
+use Rattle.encoder.specs.working.Number.{numberOf}
+use Rattle.encoder.specs.working.Fed.{fedOn, Taps, Last}
 
 -- ---- bits written behind a number stand lowest
 pub on-split : (w : ℕ) (row : List Bool) → numberOn w row ≡ w * 2 ^ length row + number row

@@ -1,3 +1,1 @@
-pub mod Fed
-pub mod Inputs
-pub mod Number
+pub mod working

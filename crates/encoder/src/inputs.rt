@@ -5,7 +5,7 @@ ghost use Prim.Native.Nat.{_+_, _≤_, _<_};
 ghost use lib.ListN.{length};
 ghost use Rattle.bits.specs.Bits.{allBits};
 ghost use Rattle.bits.specs.Row.{number};
-ghost use Rattle.encoder.specs.Inputs.{clocksAt};
+ghost use Rattle.encoder.specs.working.Inputs.{clocksAt};
 
 // A byte among 32 bits.
 fn wide(bit: u8) -> u32

@@ -10,8 +10,8 @@ ghost use Prim.Native.Nat.{_≤_, _<_};
 ghost use Rattle.bits.specs.Bits.{isOne, byte};
 ghost use Rattle.bits.specs.Row.{highFirst};
 ghost use Rattle.turbo.specs.Encoder.{feedback, y0, y1};
-ghost use Rattle.encoder.specs.Number.{registerOf};
-ghost use Rattle.encoder.specs.Fed.{fedOn, Taps, Last};
+ghost use Rattle.encoder.specs.working.Number.{registerOf};
+ghost use Rattle.encoder.specs.working.Fed.{fedOn, Taps, Last};
 
 // What the ending feeds: a(t-2) + a(t-3).
 pub fn feedback(register: u32) -> u32

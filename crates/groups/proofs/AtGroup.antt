@@ -10,16 +10,17 @@ use lib.Dec.{eqb}
 use lib.ListN.{length, take, drop, length-append}
 use lib.Seq.{take-at, length-take-le}
 use borrow.Author.Tests.{eqb-true}
-use Rattle.lists.specs.Over.{Room, Lays, Laying}
+use Rattle.lists.specs.Over.{Room}
+use Rattle.lists.specs.working.Laying.{Lays, Laying}
 use Rattle.lists.proofs.Over.{over-zero, fits-rest, fits-piece, more-piece, last}
 use Rattle.lists.proofs.Over as laying
 use Rattle.bits.specs.Bits.{byte}
-use Rattle.encoder.specs.Inputs.{clocksAt}
-use Rattle.encoder.specs.Number.{registerOf}
+use Rattle.encoder.specs.working.Inputs.{clocksAt}
+use Rattle.encoder.specs.working.Number.{registerOf}
 use Rattle.encoder.proofs.Number.{register-made, made-small}
-use Rattle.clocks.specs.Encode.{Ready, left, codedBytes}
-use Rattle.groups.specs.Together.{sixes, passedFrom}
-use Rattle.groups.specs.Group.{inGroups, digit, placesFrom, Puts}
+use Rattle.clocks.specs.working.Encode.{Ready, left, codedBytes}
+use Rattle.groups.specs.working.Together.{sixes, passedFrom}
+use Rattle.groups.specs.working.Group.{inGroups, digit, placesFrom, Puts}
 use Rattle.clocks.proofs.Left.{left-start}
 use Rattle.groups.proofs.Together.{map-passedFrom, left-group}
 

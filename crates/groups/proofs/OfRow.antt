@@ -7,13 +7,15 @@ use Prim.Native.Nat.{ℕ, _≤_}
 use native.Mathlib.Omega.{arith}
 use lib.Dec.{T}
 use lib.ListN.{length, length-map}
-use Rattle.lists.specs.Over.{Room, Lays}
+use Rattle.lists.specs.Over.{Room}
+use Rattle.lists.specs.working.Laying.{Lays}
 use Rattle.bits.specs.Bits.{isOne, byte, allBits}
 use Rattle.bits.proofs.Bits.{bits-bytes, all-bytes}
 use Rattle.links.specs.declared.Row.{Row}
-use Rattle.links.specs.Patterns.{patternOf, tailOf, padded}
+use Rattle.links.specs.Patterns.{patternOf, tailOf}
+use Rattle.links.specs.working.Padded.{padded}
 use Rattle.links.specs.Sizes.{imageLength}
-use Rattle.links.specs.Good.{goodRow, longestImage}
+use Rattle.links.specs.working.Good.{goodRow, longestImage}
 use Rattle.links.proofs.Facts.{sizes}
 use Rattle.links.proofs.GoodFlags.{pattern, tail}
 use Rattle.links.proofs.Padded.{take-padded, padded-full, low-padded, low-pattern, low-tail}
@@ -21,7 +23,7 @@ use Rattle.turbo.specs.Interleaver.{interleaved}
 use Rattle.turbo.specs.Coded.{coded}
 use Rattle.turbo.proofs.Interleaved.{length-interleaved}
 use Rattle.turbo.proofs.Lengths.{length-coded}
-use Rattle.clocks.specs.Encode.{Ready, codedBytes}
+use Rattle.clocks.specs.working.Encode.{Ready, codedBytes}
 
 -- a block of the row, the same interleaved, and the pattern and tail that the row names
 pub record OfRow (row : Row) (u v : List ℕ) (clocks : List (List ℕ)) (period : ℕ) (ending : List (List ℕ)) : Type 0 where

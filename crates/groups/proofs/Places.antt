@@ -12,9 +12,9 @@ use Rattle.lists.proofs.Parts.{map-more, map-done}
 use Rattle.links.specs.Patterns.{flagsAt}
 use Rattle.turbo.specs.Coded.{passed}
 use Rattle.turbo.proofs.Passing.{flags-at}
-use Rattle.clocks.specs.Encode.{AtMostTwice, AllAtMostTwice}
-use Rattle.groups.specs.Together.{passedFrom}
-use Rattle.groups.specs.Group.{placesOf, placesFrom}
+use Rattle.clocks.specs.working.Encode.{AtMostTwice, AllAtMostTwice}
+use Rattle.groups.specs.working.Together.{passedFrom}
+use Rattle.groups.specs.working.Group.{placesOf, placesFrom}
 
 -- how many they are at most
 length-twice : {A : Type 0} (flags : List ℕ) (xs : List A) → AtMostTwice flags → length (passed flags xs) ≤ 2 * length xs

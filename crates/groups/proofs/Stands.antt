@@ -15,10 +15,10 @@ use Rattle.bits.proofs.Row.{number-first, number-lt}
 use Rattle.turbo.specs.Encoder.{Register, next, y0, y1}
 use Rattle.turbo.specs.Coded.{six}
 use Rattle.turbo.specs.Outputs.{outputs}
-use Rattle.encoder.specs.Fed.{Taps, fedOn}
+use Rattle.encoder.specs.working.Fed.{Taps, fedOn}
 use Rattle.encoder.proofs.Taps.{length-outputs}
-use Rattle.groups.specs.Together.{sixes}
-use Rattle.groups.specs.Group.{digit, placesOf, placesFrom}
+use Rattle.groups.specs.working.Together.{sixes}
+use Rattle.groups.specs.working.Group.{digit, placesOf, placesFrom}
 
 -- ---- the highest digit of a row is its first bit
 module _ (w m : ℕ) (b : Bool) (row : List Bool) (long : length row ≡ m) (is : w % 2 ^ suc m ≡ number (b ∷ row)) where

@@ -12,10 +12,10 @@ use Rattle.bits.specs.Bits.{isOne, byte}
 use Rattle.links.specs.Patterns.{flagsAt}
 use Rattle.turbo.specs.Encoder.{Register, next}
 use Rattle.turbo.specs.Coded.{six, passed, codedFrom}
-use Rattle.turbo.specs.Parity.{registerAfter}
+use Rattle.turbo.specs.working.Parity.{registerAfter}
 use Rattle.turbo.proofs.Passing.{map-passed}
-use Rattle.clocks.specs.Encode.{left}
-use Rattle.groups.specs.Together.{sixes, passedFrom}
+use Rattle.clocks.specs.working.Encode.{left}
+use Rattle.groups.specs.working.Together.{sixes, passedFrom}
 
 -- ---- what the clocks pass on
 pub map-passedFrom : {A B : Type 0} (f : A → B) (pattern : List (List ℕ)) (s : ℕ) (rows : List (List A)) → map f (passedFrom pattern s rows) ≡ passedFrom pattern s (map (map f) rows)

@@ -1,2 +1,1 @@
-pub mod Group
-pub mod Together
+pub mod working

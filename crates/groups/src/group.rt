@@ -11,13 +11,14 @@ ghost use mathlib.Core.Bool.{true};
 ghost use mathlib.Core.List.{map};
 ghost use Prim.Native.Nat.{_+_, _≤_, _<_};
 ghost use lib.ListN.{length, take};
-ghost use Rattle.lists.specs.Over.{Room, Lays};
+ghost use Rattle.lists.specs.Over.{Room};
+ghost use Rattle.lists.specs.working.Laying.{Lays};
 ghost use Rattle.bits.specs.Bits.{allBits};
-ghost use Rattle.encoder.specs.Number.{registerOf};
-ghost use Rattle.encoder.specs.Inputs.{clocksAt};
-ghost use Rattle.clocks.specs.Encode.{AllAtMostTwice};
-ghost use Rattle.groups.specs.Together.{passedFrom};
-ghost use Rattle.groups.specs.Group.{inGroups, noPlaces, placesOf, placesFrom, digit, Puts};
+ghost use Rattle.encoder.specs.working.Number.{registerOf};
+ghost use Rattle.encoder.specs.working.Inputs.{clocksAt};
+ghost use Rattle.clocks.specs.working.Encode.{AllAtMostTwice};
+ghost use Rattle.groups.specs.working.Together.{passedFrom};
+ghost use Rattle.groups.specs.working.Group.{inGroups, noPlaces, placesOf, placesFrom, digit, Puts};
 
 // What 24 clocks put out, X Y0 Y1 X' Y'0 Y'1 a number each, and the registers after them.
 pub struct Put {

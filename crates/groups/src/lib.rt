@@ -6,8 +6,9 @@ use clocks::lay_rest;
 use group::lay_digits;
 use group::lay_places;
 use group::put_group;
-ghost use Rattle.lists.specs.Over.{Room, Lays};
-ghost use Rattle.clocks.specs.Encode.{Ready, codedBytes};
+ghost use Rattle.lists.specs.Over.{Room};
+ghost use Rattle.lists.specs.working.Laying.{Lays};
+ghost use Rattle.clocks.specs.working.Encode.{Ready, codedBytes};
 
 // Lays the coded bits of a block, u its bits and v the same interleaved; answers how many they are.
 pub fn encode(

@@ -6,12 +6,13 @@ use mathlib.Core.List.{List, _++_, map}
 use Prim.Native.Nat.{ℕ}
 use native.Mathlib.Nat.{zero-add}
 use lib.ListN.{length, drop, length-map}
-use Rattle.lists.specs.Over.{Lays}
+use Rattle.lists.specs.working.Laying.{Lays}
 use Rattle.lists.proofs.Over.{over-zero}
 use Rattle.bits.specs.Bits.{byte}
 use Rattle.links.specs.declared.Row.{Row}
 use Rattle.turbo.specs.Coded.{coded}
-use Rattle.scrambler.specs.Scrambler.{loadingWord, loaded, scrambledBy, Scrambles}
+use Rattle.scrambler.specs.Scrambler.{loadingWord, loaded, scrambledBy}
+use Rattle.scrambler.specs.working.Scrambles.{Scrambles}
 use Rattle.scrambler.proofs.Calls.{scrambles-row}
 use Rattle.scrambler.proofs.Sequence.{length-scrambledBy}
 use Rattle.blocks.specs.Block.{imageOf}

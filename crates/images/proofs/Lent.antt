@@ -6,7 +6,7 @@ use Prim.Native.Nat.{ℕ, _≤_}
 use native.Mathlib.Omega.{arith}
 use lib.ListN.{length, take}
 use lib.Seq.{length-take-le}
-use Rattle.images.specs.Cleared.{cleared}
+use Rattle.images.specs.working.Cleared.{cleared}
 use Rattle.images.proofs.Cleared.{length-cleared}
 
 module _ {scratch : List ℕ} (most n : ℕ) (made : scratch ≡ cleared most) (fits : n ≤ most) where

@@ -2,8 +2,8 @@
 use links::LONGEST_BLOCK;
 use links::LONGEST_IMAGE;
 ghost use mathlib.Core.Path.{_≡_};
-ghost use Rattle.links.specs.Good.{longestBlock, longestImage};
-ghost use Rattle.images.specs.Cleared.{cleared};
+ghost use Rattle.links.specs.working.Good.{longestBlock, longestImage};
+ghost use Rattle.images.specs.working.Cleared.{cleared};
 
 pub fn block() -> [u8; LONGEST_BLOCK]
     ensures { λ r. ⌜ r ≡ cleared longestBlock ⌝ }

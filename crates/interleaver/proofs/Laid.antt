@@ -9,12 +9,13 @@ use native.Mathlib.Omega.{arith}
 use lib.Arith.{digits-lt}
 use lib.Dec.{T}
 use lib.ListN.{length, getD, set, length-map}
-use Rattle.lists.specs.Over.{over, Laying}
+use Rattle.lists.specs.Over.{over}
+use Rattle.lists.specs.working.Laying.{Laying}
 use Rattle.lists.proofs.Over.{start, fits-piece, more-piece, more}
 use Rattle.bits.specs.Bits.{isOne, byte, allBits}
 use Rattle.bits.proofs.Bits.{byte-at}
 use Rattle.links.specs.declared.Row.{Row}
-use Rattle.links.specs.Good.{goodRow, longestBlock}
+use Rattle.links.specs.working.Good.{goodRow, longestBlock}
 use Rattle.links.proofs.Facts.{sizes, block-is}
 use Rattle.turbo.specs.Interleaver.{position, interleavedFrom, interleaved}
 use Rattle.turbo.proofs.Interleaved.{length-from}

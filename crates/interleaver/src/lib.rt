@@ -7,7 +7,7 @@ ghost use Prim.Native.Nat.{_+_, _-_, _*_, _/_, _%_, _^_, _<_};
 ghost use lib.Dec.{T};
 ghost use lib.ListN.{length};
 ghost use Rattle.bits.specs.Bits.{isOne, byte, allBits};
-ghost use Rattle.links.specs.Good.{goodRow};
+ghost use Rattle.links.specs.working.Good.{goodRow};
 ghost use Rattle.lists.specs.Over.{over};
 ghost use Rattle.turbo.specs.Interleaver.{interleavedFrom, interleaved};
 

@@ -10,7 +10,7 @@ use lib.Seq.{getD-take}
 use Rattle.lists.proofs.Every.{every-at, together-at}
 use Rattle.links.specs.declared.Row.{Row}
 use Rattle.links.specs.Sizes.{bytesHeld, bitsOver, imageLength}
-use Rattle.links.specs.Good.{longestBlock, longestImage, inverse, hasInverse, goodSizes, goodPrimes, goodRow}
+use Rattle.links.specs.working.Good.{longestBlock, longestImage, inverse, hasInverse, goodSizes, goodPrimes, goodRow}
 
 pub record Sizes (row : Row) : Type 0 where
   pub product : row .k1 * row .k2 ≡ row .k

@@ -7,7 +7,7 @@ use lib.Dec.{T}
 use lib.ListN.{getD}
 use Rattle.links.specs.declared.Row.{Row}
 use Rattle.links.specs.Rows.{rows, noRow, place, offered, rowOf}
-use Rattle.links.specs.Good.{goodRow}
+use Rattle.links.specs.working.Good.{goodRow}
 use Rattle.links.proofs.Good.{good}
 use Rattle.links.proofs.Search.{found-row}
 

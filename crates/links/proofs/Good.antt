@@ -9,7 +9,7 @@ use Rattle.lists.proofs.Every.{every-at}
 use Rattle.links.specs.Rows.{rows, noRow, place, offered, rowOf}
 use Rattle.links.specs.Patterns.{patterns, tails, clocksIn, flagsAt, total}
 use Rattle.links.specs.Sizes.{passedOn, tailBits, imageLength}
-use Rattle.links.specs.Good.{goodSizes, inverseBelow, goodPrimes, goodClock, goodPattern, silent, goodTail, goodRow}
+use Rattle.links.specs.working.Good.{goodSizes, inverseBelow, goodPrimes, goodClock, goodPattern, silent, goodTail, goodRow}
 use Rattle.links.proofs.Search.{offered-place}
 
 all-good : T (every goodRow rows)

@@ -11,7 +11,7 @@ use lib.Seq.{getD-take, getD-drop}
 use Rattle.lists.proofs.Every.{every-at, every-place, together-at}
 use Rattle.links.specs.declared.Row.{Row}
 use Rattle.links.specs.Patterns.{patternOf, tailOf, flagsAt}
-use Rattle.links.specs.Good.{atMost, goodClock, goodPattern, silent, ofFirst, ofSecond, goodTail, goodRow}
+use Rattle.links.specs.working.Good.{atMost, goodClock, goodPattern, silent, ofFirst, ofSecond, goodTail, goodRow}
 
 -- a clock of a pattern
 pub record Clock (flags : List ℕ) : Type 0 where

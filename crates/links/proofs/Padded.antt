@@ -12,8 +12,9 @@ use lib.Seq.{take-at}
 use Rattle.lists.specs.Every.{every}
 use Rattle.lists.proofs.Every.{every-place}
 use Rattle.links.specs.declared.Row.{Row}
-use Rattle.links.specs.Patterns.{flags, padded, patternOf, tailOf}
-use Rattle.links.specs.Good.{atMost, goodRow}
+use Rattle.links.specs.Patterns.{flags, patternOf, tailOf}
+use Rattle.links.specs.working.Padded.{padded}
+use Rattle.links.specs.working.Good.{atMost, goodRow}
 use Rattle.links.proofs.GoodFlags.{pattern, tail}
 
 pub take-padded : (n : ℕ) (clocks : List (List ℕ)) → take (length clocks) (padded n clocks) ≡ clocks

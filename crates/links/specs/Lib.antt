@@ -1,4 +1,4 @@
-pub mod Good
 pub mod Patterns
 pub mod Rows
 pub mod Sizes
+pub mod working

@@ -1,10 +1,10 @@
 -- What the clocks pass on of X Y0 Y1 X' Y'0 Y'1: the patterns (M.2092-1, Table 5) and tails (Table 6) of the offered links, as
 -- printed. A flag 1 passes a bit on, 0 deletes it, 2 sends it twice.
 use mathlib.Core.Bool.{cond}
-use mathlib.Core.List.{List, [], _∷_, _++_}
-use Prim.Native.Nat.{ℕ, _+_, _-_, _%_}
+use mathlib.Core.List.{List, [], _∷_}
+use Prim.Native.Nat.{ℕ, _+_, _%_}
 use lib.Dec.{eqb}
-use lib.ListN.{length, getD, replicate}
+use lib.ListN.{length, getD}
 
 -- the six flags of a clock, as in X; Y0; Y1; X'; Y'0; Y'1
 abbrev pub flags : ℕ → ℕ → ℕ → ℕ → ℕ → ℕ → List ℕ
@@ -62,7 +62,3 @@ flagsAt clocks s = getD clocks (s % length clocks) []
 unfoldable pub total : List ℕ → ℕ
 total [] = 0
 total (f ∷ fs) = f + total fs
-
--- clocks in an array of n, with clocks that pass nothing behind them
-unfoldable pub padded : ℕ → List (List ℕ) → List (List ℕ)
-padded n clocks = clocks ++ replicate (n - length clocks) (flags 0 0 0 0 0 0)

@@ -2,7 +2,8 @@
 // flag 1 passes a bit on, 0 deletes it, 2 sends it twice.
 ghost use mathlib.Core.Path.{_≡_};
 ghost use lib.ListN.{length};
-ghost use Rattle.links.specs.Patterns.{patternOf, tailOf, padded};
+ghost use Rattle.links.specs.Patterns.{patternOf, tailOf};
+ghost use Rattle.links.specs.working.Padded.{padded};
 
 const PATTERN_2: [[u8; 6]; 10] = [
     [1, 1, 1, 0, 0, 1],

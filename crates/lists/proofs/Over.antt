@@ -10,7 +10,8 @@ use native.Mathlib.Omega.{arith}
 use lib.ListN.{length, set, take, drop, take-append-drop, drop-of-length-le, length-append, length-drop}
 use lib.Seq.{set-split, append-snoc, take-at, drop-at, take-append-le, drop-append-le, take-append-add, drop-append-add, drop-drop, length-take-le}
 use Rattle.lists.specs.Every.{every}
-use Rattle.lists.specs.Over.{over, Room, Lays, Laying}
+use Rattle.lists.specs.Over.{over, Room}
+use Rattle.lists.specs.working.Laying.{Lays, Laying}
 use Rattle.lists.proofs.Every.{every-append, every-take, every-drop}
 
 module _ {A : Type 0} where

@@ -14,7 +14,7 @@ use Rattle.messages.specs.declared.Step.{Step}
 use Rattle.messages.specs.Fill.{isFill, onlyFill}
 use Rattle.messages.specs.Places.{byteAt, Fill, FillFrom, Spoilt, Begins, totalAt, Broken, too-few, too-small, too-long, Whole}
 use Rattle.messages.specs.Step.{refused, finished, message, messageAt, stepMessage}
-use Rattle.messages.specs.Stepping.{Stepping, past, ends, spoils, breaks, finds}
+use Rattle.messages.specs.working.Stepping.{Stepping, past, ends, spoils, breaks, finds}
 use Rattle.messages.proofs.Places.{fill-is, is-fill, fill-not, not-fill, left-first, left-declares, only-from, from-only, spoilt-at, spoilt-only}
 use Rattle.messages.proofs.Ways.{same-status, same-start, same-length, fill-broken, message-few, message-small, message-long, message-whole, step-only, step-fill, step-begins, step-past, step-within}
 

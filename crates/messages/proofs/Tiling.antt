@@ -10,7 +10,7 @@ use lib.Seq.{take-add}
 use Rattle.messages.specs.declared.Step.{Step}
 use Rattle.messages.specs.Places.{FillFrom}
 use Rattle.messages.specs.Step.{finished, message, stepMessage}
-use Rattle.messages.specs.Stepping.{Stepping, past, ends, spoils, breaks, finds}
+use Rattle.messages.specs.working.Stepping.{Stepping, past, ends, spoils, breaks, finds}
 use Rattle.messages.specs.Tiling.{Tiles, none, next, Stops, at-fill, at-spoilt, at-broken, Tiled, bytesOf}
 use Rattle.messages.specs.Walk.{Walks, stops, goes}
 use Rattle.messages.proofs.Stepping.{step-goes, answer-inside}

@@ -10,7 +10,7 @@ use borrow.Author.Tests.{eq-eqb, ne-eqb}
 use Rattle.messages.specs.declared.Step.{Step}
 use Rattle.messages.specs.Places.{Whole}
 use Rattle.messages.specs.Step.{message, stepMessage}
-use Rattle.messages.specs.Stepping.{Stepping, past, ends, spoils, breaks, finds}
+use Rattle.messages.specs.working.Stepping.{Stepping, past, ends, spoils, breaks, finds}
 use Rattle.messages.specs.Walk.{Walks, stops, goes, walkFrom, walk}
 use Rattle.messages.proofs.Stepping.{step-goes}
 use Rattle.messages.proofs.Ways.{same-start, same-length}

@@ -10,19 +10,20 @@ use native.Mathlib.Omega.{arith}
 use lib.Dec.{T}
 use lib.ListN.{length, getD, set, drop, length-map, drop-of-length-le, List·getD-map, List·getD-append}
 use lib.Seq.{drop-cons}
-use Rattle.lists.specs.Over.{Laying}
+use Rattle.lists.specs.working.Laying.{Laying}
 use Rattle.lists.proofs.Over.{start, fits, more, done, over-all}
 use Rattle.bits.specs.Bits.{isOne, byte, allBits}
 use Rattle.bits.proofs.Bits.{byte-at}
-use Rattle.distance.specs.Coding.{xBits}
+use Rattle.distance.specs.working.Coding.{xBits}
 use Rattle.distance.proofs.Weave.{xBits-next}
 use Rattle.links.specs.declared.Row.{Row}
-use Rattle.links.specs.Patterns.{patternOf, flagsAt, total, padded}
+use Rattle.links.specs.Patterns.{patternOf, flagsAt, total}
+use Rattle.links.specs.working.Padded.{padded}
 use Rattle.links.specs.Sizes.{passedOn, imageLength}
-use Rattle.links.specs.Good.{goodRow}
+use Rattle.links.specs.working.Good.{goodRow}
 use Rattle.links.proofs.GoodFlags.{Pattern, clock-at, pattern as patternFacts}
 use Rattle.links.proofs.PassedOn.{passed-on-next, passed-on-within, total-x}
-use Rattle.turbo.specs.Parity.{countsFrom, countsOf}
+use Rattle.turbo.specs.working.Parity.{countsFrom, countsOf}
 use Rattle.turbo.proofs.Weave.{length-counts-from}
 
 -- ---- how many bits a clock's flags pass on, flag by flag

@@ -6,12 +6,12 @@ ghost use mathlib.Core.List.{map};
 ghost use lib.Dec.{T};
 ghost use lib.ListN.{length};
 ghost use Rattle.bits.specs.Bits.{isOne, byte, allBits};
-ghost use Rattle.distance.specs.Coding.{xBits, received};
-ghost use Rattle.links.specs.Good.{goodRow};
+ghost use Rattle.distance.specs.working.Coding.{xBits};
+ghost use Rattle.links.specs.working.Good.{goodRow};
 ghost use Rattle.links.specs.Patterns.{total};
 ghost use Rattle.links.specs.Sizes.{imageLength};
-ghost use Rattle.turbo.specs.Parity.{countsOf};
-ghost use Rattle.blocks.specs.Coding.{codingOf};
+ghost use Rattle.turbo.specs.working.Parity.{countsOf};
+ghost use Rattle.blocks.specs.Reading.{received};
 
 // Copies bytes.
 fn copy(from: &[u8], to: &mut [u8])
@@ -68,7 +68,7 @@ fn take_x(row: Row, coded: &[u8], u: &mut [u8])
 // The k bits of what came; plain is scratch for all of it unscrambled.
 pub fn receive(row: Row, came: &[u8], plain: &mut [u8], u: &mut [u8])
     requires { ⌜ T (goodRow row) × (length (now u) ≡ row .k) × (length (now came) ≡ imageLength row) × (allBits (now came) ≡ true) × (length (now plain) ≡ imageLength row) ⌝ }
-    ensures { λ _. ⌜ now (u .exit) ≡ map byte (received (codingOf row) (map isOne (now (came .entry)))) ⌝ }
+    ensures { λ _. ⌜ now (u .exit) ≡ map byte (received row (map isOne (now (came .entry)))) ⌝ }
 {
     copy(came, plain);
     scrambler::scramble(scrambler::load(), came.len(), plain);

@@ -6,7 +6,8 @@ use mathlib.Core.List.{List, _++_, map}
 use Prim.Native.Nat.{ℕ}
 use lib.ListN.{length}
 use Rattle.bits.specs.Bits.{byte}
-use Rattle.scrambler.specs.Scrambler.{cells, sequence, scrambledBy, mixed, Scrambles}
+use Rattle.scrambler.specs.Scrambler.{cells, sequence, scrambledBy}
+use Rattle.scrambler.specs.working.Scrambles.{mixed, Scrambles}
 use Rattle.scrambler.proofs.Mixed.{mixed-row}
 use Rattle.scrambler.proofs.Sequence.{length-sequence}
 

@@ -11,7 +11,7 @@ use lib.Seq.{drop-cons}
 use Rattle.bits.specs.Bits.{byte}
 use Rattle.bits.specs.Xor.{_⊕_, xorRows}
 use Rattle.bits.proofs.Xor.{⊕-bits}
-use Rattle.scrambler.specs.Scrambler.{mixed}
+use Rattle.scrambler.specs.working.Scrambles.{mixed}
 
 pub mixed-row : (key row : List Bool) (rest : List ℕ) → length row ≡ length key → mixed key (map byte row ++ rest) ≡ map byte (xorRows key row) ++ rest
 unfolding mixed xorRows

@@ -14,7 +14,8 @@ use Rattle.bits.specs.Row.{number}
 use Rattle.bits.specs.Xor.{_⊕_}
 use Rattle.bits.proofs.Xor.{⊕-is, ⊕-comm}
 use Rattle.bits.proofs.Row.{length-highFirst, number-highFirst}
-use Rattle.scrambler.specs.Scrambler.{cells, output, shifted, after, sequence, mixed, Scrambles}
+use Rattle.scrambler.specs.Scrambler.{cells, output, shifted, sequence}
+use Rattle.scrambler.specs.working.Scrambles.{after, mixed, Scrambles}
 use Rattle.scrambler.proofs.Register.{shifted-word, length-shifted, cells-number, number-small}
 use Rattle.scrambler.proofs.Mixed.{mixed-more, mixed-none}
 

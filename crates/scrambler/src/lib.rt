@@ -2,7 +2,8 @@
 ghost use mathlib.Core.Path.{_≡_};
 ghost use Prim.Native.Nat.{_^_, _<_, _≤_};
 ghost use lib.ListN.{length};
-ghost use Rattle.scrambler.specs.Scrambler.{loadingWord, Scrambles};
+ghost use Rattle.scrambler.specs.Scrambler.{loadingWord};
+ghost use Rattle.scrambler.specs.working.Scrambles.{Scrambles};
 
 // The loading word, cell 1 first.
 pub fn load() -> u16

@@ -6,7 +6,7 @@ use Prim.Native.Nat.{ℕ, _<_, _≤_}
 use lib.Dec.{eqb, ltb}
 use lib.ListN.{length}
 use borrow.Author.Tests.{eqb-true, ltb-true}
-use Rattle.links.specs.Good.{longestImage}
+use Rattle.links.specs.working.Good.{longestImage}
 use Rattle.links.specs.Rows.{rows, placeIn, place, offered, rowOf}
 use Rattle.links.specs.Sizes.{imageLength}
 use Rattle.links.proofs.Facts.{sizes}

@@ -11,7 +11,7 @@ use lib.Seq.{getD-take, getD-drop}
 use Rattle.links.specs.declared.Row.{Row}
 use Rattle.links.specs.Patterns.{patternOf, tailOf, flagsAt}
 use Rattle.links.specs.Sizes.{passedOn, tailBits, imageLength}
-use Rattle.links.specs.Good.{goodRow}
+use Rattle.links.specs.working.Good.{goodRow}
 use Rattle.links.proofs.GoodFlags.{Pattern, Tail, clock-at, pattern, tail}
 use Rattle.links.proofs.PassedOn.{tail-bits-split}
 use Rattle.turbo.specs.Encoder.{Register, start, feedback, next}

@@ -7,7 +7,7 @@ use native.Mathlib.Omega.{arith}
 use lib.Arith.{digits-lt, digits-div, digits-mod}
 use lib.Dec.{T}
 use Rattle.links.specs.declared.Row.{Row}
-use Rattle.links.specs.Good.{goodRow, inverse}
+use Rattle.links.specs.working.Good.{goodRow, inverse}
 use Rattle.links.proofs.Facts.{prime, sizes, block-is, inverses}
 use Rattle.turbo.specs.Interleaver.{position, InBlock}
 use Rattle.turbo.proofs.Affine.{affine, affineBack, back-affine, affine-back}

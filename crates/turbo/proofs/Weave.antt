@@ -10,13 +10,13 @@ use lib.ListN.{length, getD, take, drop, length-drop}
 use lib.Seq.{getD-drop, drop-drop}
 use Rattle.links.specs.declared.Row.{Row}
 use Rattle.links.specs.Patterns.{patternOf, tailOf, flagsAt, total}
-use Rattle.links.specs.Good.{goodRow}
+use Rattle.links.specs.working.Good.{goodRow}
 use Rattle.links.proofs.GoodFlags.{Clock, Pattern, clock-at, pattern}
 use Rattle.turbo.specs.Encoder.{Register, start, next, y0, y1}
 use Rattle.turbo.specs.Interleaver.{interleaved}
 use Rattle.turbo.specs.Coded.{six, passed, ending, codedFrom, coded}
-use Rattle.bits.specs.Weave.{weave}
-use Rattle.turbo.specs.Parity.{parityFrom, countsFrom, registerAfter, parityOf, countsOf, tailBitsOf}
+use Rattle.bits.specs.working.Weave.{weave}
+use Rattle.turbo.specs.working.Parity.{parityFrom, countsFrom, registerAfter, parityOf, countsOf, tailBitsOf}
 use Rattle.turbo.proofs.Interleaved.{length-interleaved}
 use Rattle.turbo.proofs.Passing.{length-passed, passed-x, passed-over, passed-split}
 

@@ -11,7 +11,7 @@ use Rattle.datagrams.proofs.Packed.{bytes-known}
 use Rattle.links.proofs.Facts.{sizes}
 use Rattle.blocks.specs.Block.{imageOf}
 use Rattle.blocks.proofs.Blocks.{length-datagram}
-use Rattle.accepting.specs.Within.{found}
+use Rattle.accepting.specs.working.Within.{found}
 use Rattle.accepting.proofs.Within.{far-refused, near-answered, datagram-laid}
 use borrow.Author.Needs.{needs}
 use Rattle.accepting.proofs.accept.Statement.{statement}

@@ -7,7 +7,7 @@ use native.Mathlib.Omega.{arith}
 use lib.ListN.{length}
 use Rattle.bits.specs.Bits.{isOne}
 use Rattle.bits.specs.Row.{differences}
-use Rattle.links.specs.Good.{longestBlock}
+use Rattle.links.specs.working.Good.{longestBlock}
 use Rattle.links.proofs.Facts.{sizes}
 use Rattle.accepting.proofs.Comparing.{image-long, image-bits, image-there}
 use Rattle.images.proofs.Lent.{scratch-enough, length-lent}

@@ -4,7 +4,6 @@ use Prim.Native.Nat.{ℕ, _-_, _*_, _≤_}
 use native.Mathlib.Omega.{arith}
 use lib.ListN.{length}
 use Rattle.links.proofs.Facts.{sizes}
-use Rattle.blocks.specs.Coding.{codingOf}
 use Rattle.accepting.proofs.BitsOver.{leftOver, over-one, over-next, over-done}
 use borrow.Author.Needs.{needs}
 use Rattle.accepting.proofs.over_zero.Statement.{statement}
@@ -29,7 +28,6 @@ loop-holds c =
     (search needs, omega (arith, c .bytes-held .ensures, c .before .open-bits .ensures, z .whole), omega (arith, c .before .open-bits .ensures, start .pre .1), refl)
 
 returns : tie.Need-returns Inv-loop μ-loop
-unfolding codingOf
 returns c =
     let at = c .before .before .before .loop in
     let sized = c .before .before .before .before in
@@ -44,7 +42,6 @@ loop-again c =
     (omega arith, search needs, at .inv .2, sym (over-next u _ (at .inv .2) (at .i) (omega arith) (c .if1 .left)) ∙ at .inv .3)
 
 returns-2 : tie.Need-returns-2 Inv-loop μ-loop
-unfolding codingOf
 returns-2 c =
     let at = c .before .loop in
     let sized = c .before .before in

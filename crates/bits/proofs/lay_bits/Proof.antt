@@ -5,7 +5,7 @@ use native.Mathlib.Nat.{add-zero, add-assoc, sub-zero}
 use native.Mathlib.Omega.{arith}
 use lib.ListN.{length-map}
 use borrow.Author.Needs.{needs}
-use Rattle.lists.specs.Over.{Laying}
+use Rattle.lists.specs.working.Laying.{Laying}
 use Rattle.lists.proofs.Over.{start, fits, more, done}
 use Rattle.bits.specs.Bits.{byte}
 use Rattle.bits.specs.Row.{highFirst}

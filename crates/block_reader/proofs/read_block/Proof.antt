@@ -9,8 +9,7 @@ use Rattle.answers.proofs.Wrote.{refuses}
 use Rattle.bits.specs.Bits.{isOne}
 use Rattle.bits.proofs.Bits.{all-bytes}
 use Rattle.links.specs.Sizes.{imageLength}
-use Rattle.distance.specs.Coding.{received}
-use Rattle.blocks.specs.Coding.{codingOf}
+use Rattle.blocks.specs.Reading.{received}
 use Rattle.block_reader.proofs.Candidate.{none-closes, over-refused, within-one}
 use borrow.Author.Needs.{needs}
 use Rattle.block_reader.proofs.read_block.Statement.{statement}
@@ -35,7 +34,7 @@ closed c = not-false (mended c .mend .result) (c .if1 .left)
 mend-requires : tie.Need-mend-requires
 mend-requires c κs =
     let at = c .before .before .before .before .before in
-    rw (at .receive .ensures) (all-bytes (received (codingOf (start at .args .row)) (map isOne (start at .args .came .now))))
+    rw (at .receive .ensures) (all-bytes (received (start at .args .row) (map isOne (start at .args .came .now))))
 
 returns : tie.Need-returns
 returns c =

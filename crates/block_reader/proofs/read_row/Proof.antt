@@ -3,7 +3,7 @@ use mathlib.Core.Path.{sym, _∙_}
 use Prim.Native.Nat.{_≤_}
 use native.Mathlib.Omega.{arith}
 use lib.ListN.{length}
-use Rattle.links.specs.Good.{longestBlock, longestImage}
+use Rattle.links.specs.working.Good.{longestBlock, longestImage}
 use Rattle.links.proofs.Facts.{sizes}
 use Rattle.images.proofs.Lent.{scratch-enough, length-lent}
 use borrow.Author.Needs.{needs}

@@ -15,7 +15,7 @@ use Rattle.lists.proofs.Over.{over-zero}
 use Rattle.lists.proofs.Tests.{holds, fails}
 use Rattle.links.specs.Rows.{rows, offered, rowOf}
 use Rattle.links.specs.Sizes.{bytesHeld, imageLength}
-use Rattle.links.specs.Good.{goodRow}
+use Rattle.links.specs.working.Good.{goodRow}
 use Rattle.links.proofs.Facts.{sizes}
 use Rattle.links.proofs.Search.{found-offered, found-row}
 use Rattle.blocks.proofs.Blocks.{long-image}

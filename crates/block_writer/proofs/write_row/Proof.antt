@@ -2,7 +2,7 @@
 use mathlib.Core.Path.{sym}
 use Prim.Native.Nat.{_≤_}
 use borrow.Author.Needs.{needs}
-use Rattle.links.specs.Good.{longestBlock}
+use Rattle.links.specs.working.Good.{longestBlock}
 use Rattle.links.proofs.Facts.{sizes}
 use Rattle.images.proofs.Lent.{scratch-enough, length-lent}
 use Rattle.block_writer.proofs.write_row.Statement.{statement}

@@ -6,7 +6,7 @@ use native.Mathlib.Nat.{sub-zero}
 use native.Mathlib.Omega.{arith}
 use borrow.Author.Needs.{needs}
 use Rattle.check32.specs.Check.{step}
-use Rattle.check32.specs.Residue.{residue, firstResidue, bitsAfter}
+use Rattle.check32.specs.working.Marks.{residue, firstResidue, bitsAfter}
 use Rattle.check32.proofs.Residue.{residue-start, residue-next, residue-here, residue-later, residue-none}
 use Rattle.check32.proofs.bits_after.Statement.{statement}
 use Rattle.check32.proofs.bits_after.Tie as tie

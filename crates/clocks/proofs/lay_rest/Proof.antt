@@ -5,8 +5,8 @@ use native.Mathlib.Omega.{arith}
 use lib.ListN.{length, take}
 use Rattle.lists.proofs.Over.{start}
 use Rattle.bits.proofs.Bits.{bit-low}
-use Rattle.encoder.specs.Number.{registerOf}
-use Rattle.clocks.specs.Encode.{left}
+use Rattle.encoder.specs.working.Number.{registerOf}
+use Rattle.clocks.specs.working.Encode.{left}
 use Rattle.clocks.proofs.AtClock.{AtClock, place-below, clock-fits, at-next, ending-fits, at-end}
 use borrow.Author.Needs.{needs}
 use Rattle.clocks.proofs.lay_rest.Statement.{statement}

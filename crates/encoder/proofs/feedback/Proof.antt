@@ -6,7 +6,7 @@ use lib.Dec.{eqb, eqb→eq}
 use Rattle.lists.proofs.Line.{line}
 use Rattle.bits.specs.Bits.{byte}
 use Rattle.turbo.specs.Encoder.{feedback}
-use Rattle.encoder.specs.Number.{registerOf}
+use Rattle.encoder.specs.working.Number.{registerOf}
 use Rattle.encoder.proofs.feedback.Statement.{statement}
 use Rattle.encoder.proofs.feedback.Tie as tie
 

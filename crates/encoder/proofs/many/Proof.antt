@@ -7,7 +7,7 @@ use Rattle.lists.proofs.Line.{line}
 use Rattle.bits.specs.Row.{highFirst}
 use Rattle.bits.specs.Xor.{_⊕_}
 use Rattle.bits.proofs.Row.{length-highFirst, number-highFirst}
-use Rattle.encoder.specs.Number.{registerOf, numberOf}
+use Rattle.encoder.specs.working.Number.{registerOf, numberOf}
 use Rattle.encoder.proofs.Feed.{fifteen, brought, fed-once}
 use Rattle.encoder.proofs.many.Statement.{statement}
 use Rattle.encoder.proofs.many.Tie as tie

@@ -8,8 +8,8 @@ use Rattle.bits.specs.Bits.{isOne, byte}
 use Rattle.bits.specs.Row.{numberOn}
 use Rattle.turbo.specs.Encoder.{feedback}
 use Rattle.turbo.specs.Outputs.{outputs}
-use Rattle.encoder.specs.Number.{registerOf, numberOf}
-use Rattle.encoder.specs.Fed.{fedOn}
+use Rattle.encoder.specs.working.Number.{registerOf, numberOf}
+use Rattle.encoder.specs.working.Fed.{fedOn}
 use Rattle.encoder.proofs.Number.{agree}
 use Rattle.encoder.proofs.one.Statement.{statement}
 use Rattle.encoder.proofs.one.Tie as tie

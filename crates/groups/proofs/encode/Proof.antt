@@ -4,7 +4,7 @@ use Prim.Native.Nat.{_-_}
 use native.Mathlib.Omega.{arith}
 use lib.ListN.{length}
 use borrow.Author.Needs.{needs}
-use Rattle.groups.specs.Group.{noPlaces}
+use Rattle.groups.specs.working.Group.{noPlaces}
 use Rattle.groups.proofs.AtGroup.{Grouped, AtGroup, front, front-within, in-groups-most, in-groups-whole, group-start, group-fits, group-next, rest-fits, rest-laid}
 use Rattle.groups.proofs.encode.Statement.{statement}
 use Rattle.groups.proofs.encode.Tie as tie

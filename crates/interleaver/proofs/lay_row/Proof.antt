@@ -7,7 +7,7 @@ use lib.ListN.{length, getD, length-set}
 use mir.Val.{Fits}
 use mir.Syntax.{w32}
 use borrow.Author.Needs.{needs}
-use Rattle.lists.specs.Over.{Laying}
+use Rattle.lists.specs.working.Laying.{Laying}
 use Rattle.lists.proofs.Over.{fits, done}
 use Rattle.links.proofs.Facts.{sizes}
 use Rattle.interleaver.proofs.Laid.{place-code, row-small, pair-small, inputs, pairsFrom, pairs-start, pairs-done, pairs-more, pairs-next, pairs-room, place-inside}

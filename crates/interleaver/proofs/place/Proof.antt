@@ -6,7 +6,7 @@ use lib.Arith.{digits-lt}
 use lib.Dec.{T}
 use borrow.Author.Needs.{needs}
 use Rattle.links.specs.declared.Row.{Row}
-use Rattle.links.specs.Good.{goodRow, longestBlock}
+use Rattle.links.specs.working.Good.{goodRow, longestBlock}
 use Rattle.links.proofs.Facts.{sizes, block-is}
 use Rattle.interleaver.proofs.place.Statement.{statement}
 use Rattle.interleaver.proofs.place.Tie as tie

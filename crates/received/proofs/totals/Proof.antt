@@ -4,7 +4,7 @@ use mathlib.Core.List.{[], map}
 use Prim.Native.Nat.{_-_, _≤_}
 use native.Mathlib.Omega.{arith}
 use lib.ListN.{length, drop, length-map}
-use Rattle.lists.specs.Over.{Laying}
+use Rattle.lists.specs.working.Laying.{Laying}
 use Rattle.lists.proofs.Over.{start, more, done, over-all}
 use Rattle.lists.proofs.Parts.{map-more, map-done}
 use Rattle.links.specs.Patterns.{total}

@@ -2,7 +2,7 @@
 use mathlib.Core.Path.{refl}
 use Rattle.bits.specs.Row.{highFirst}
 use Rattle.bits.specs.Xor.{_⊕_}
-use Rattle.check32.specs.Bytes.{residuesFrom, byteResidues}
+use Rattle.check32.specs.working.Bytes.{residuesFrom, byteResidues}
 use Rattle.check32.specs.Check.{timesX, step, registerFrom}
 use Rattle.check32.proofs.bytes.residues.Statement.{statement}
 use Rattle.check32.proofs.bytes.residues.Tie as tie

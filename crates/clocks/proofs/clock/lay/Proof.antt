@@ -4,7 +4,7 @@ use Prim.Native.Nat.{_+_, _-_, _≤_}
 use native.Mathlib.Omega.{arith}
 use lib.ListN.{length, getD, drop, replicate}
 use borrow.Author.Needs.{needs}
-use Rattle.lists.specs.Over.{Laying}
+use Rattle.lists.specs.working.Laying.{Laying}
 use Rattle.lists.proofs.Over.{start, more-piece, fits-piece, done}
 use Rattle.turbo.specs.Coded.{passed}
 use Rattle.turbo.proofs.Passing.{passed-more, passed-done}

@@ -1,8 +1,8 @@
 -- The register after one clock. Assumes nothing.
 use mathlib.Core.List.{[], _∷_}
 use Rattle.bits.specs.Bits.{isOne}
-use Rattle.turbo.specs.Parity.{registerAfter}
-use Rattle.encoder.specs.Number.{registerOf}
+use Rattle.turbo.specs.working.Parity.{registerAfter}
+use Rattle.encoder.specs.working.Number.{registerOf}
 use borrow.Author.Needs.{needs}
 use Rattle.clocks.proofs.clock.next.Statement.{statement}
 use Rattle.clocks.proofs.clock.next.Tie as tie

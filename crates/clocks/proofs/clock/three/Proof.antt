@@ -1,7 +1,7 @@
 -- The lowest bit of the taps is the clock's. Assumes nothing.
 use Rattle.bits.specs.Bits.{isOne}
 use Rattle.turbo.specs.Encoder.{y0, y1}
-use Rattle.encoder.specs.Number.{registerOf}
+use Rattle.encoder.specs.working.Number.{registerOf}
 use Rattle.encoder.proofs.Taps.{tap-one}
 use borrow.Author.Needs.{needs}
 use Rattle.clocks.proofs.clock.three.Statement.{statement}

@@ -6,7 +6,7 @@ use borrow.Author.Needs.{needs}
 use Rattle.bits.specs.Bits.{byte}
 use Rattle.turbo.specs.Encoder.{start, feedback}
 use Rattle.turbo.specs.Coded.{six, alone}
-use Rattle.encoder.specs.Number.{registerOf}
+use Rattle.encoder.specs.working.Number.{registerOf}
 use Rattle.encoder.proofs.Number.{is-one, feedback-small}
 use Rattle.clocks.proofs.ending.alone.Statement.{statement}
 use Rattle.clocks.proofs.ending.alone.Tie as tie

@@ -1,7 +1,7 @@
 -- The second encoder's ending behind the first's. Assumes nothing.
 use borrow.Author.Needs.{needs}
 use Rattle.lists.proofs.Over.{first-fits, second-fits, both-laid}
-use Rattle.encoder.specs.Number.{registerOf}
+use Rattle.encoder.specs.working.Number.{registerOf}
 use Rattle.clocks.proofs.Left.{firstBytes, secondBytes, ending-both}
 use Rattle.clocks.proofs.ending.end.Statement.{statement}
 use Rattle.clocks.proofs.ending.end.Tie as tie

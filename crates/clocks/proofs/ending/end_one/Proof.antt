@@ -6,12 +6,12 @@ use native.Mathlib.Omega.{arith}
 use lib.ListN.{length, getD}
 use lib.Seq.{slice}
 use borrow.Author.Needs.{needs}
-use Rattle.lists.specs.Over.{Laying}
+use Rattle.lists.specs.working.Laying.{Laying}
 use Rattle.lists.proofs.Over.{start, more-piece, fits-piece, done}
 use Rattle.bits.specs.Bits.{byte}
 use Rattle.turbo.specs.Encoder.{feedback, next}
 use Rattle.turbo.specs.Coded.{passed, alone, endingOf}
-use Rattle.encoder.specs.Number.{registerOf}
+use Rattle.encoder.specs.working.Number.{registerOf}
 use Rattle.encoder.proofs.Number.{feedback-small, made-small, register-ending}
 use Rattle.clocks.proofs.Left.{ending-more, ending-done}
 use Rattle.clocks.proofs.ending.end_one.Statement.{statement}

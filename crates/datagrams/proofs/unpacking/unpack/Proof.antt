@@ -5,7 +5,8 @@ use Prim.Native.Nat.{ℕ, _+_, _-_, _*_, _/_, _≤_}
 use native.Mathlib.Omega.{arith}
 use lib.ListN.{drop, length-map}
 use borrow.Author.Needs.{needs}
-use Rattle.lists.specs.Over.{over, Laying}
+use Rattle.lists.specs.Over.{over}
+use Rattle.lists.specs.working.Laying.{Laying}
 use Rattle.lists.proofs.Over.{start, more-piece, last}
 use Rattle.bits.specs.Bits.{byte}
 use Rattle.bits.specs.Datagram.{bitsOf, filled}

@@ -3,7 +3,7 @@ use mathlib.Core.Path.{_≡_, ap}
 use Prim.Native.Nat.{ℕ, _+_}
 use native.Mathlib.Omega.{arith}
 use Rattle.bits.specs.Row.{number}
-use Rattle.encoder.specs.Inputs.{clocksAt}
+use Rattle.encoder.specs.working.Inputs.{clocksAt}
 use Rattle.encoder.proofs.Halves.{number-parts}
 use borrow.Author.Needs.{needs}
 use Rattle.encoder.proofs.inputs.packed.Statement.{statement}

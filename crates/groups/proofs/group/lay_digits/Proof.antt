@@ -5,11 +5,11 @@ use Prim.Native.Nat.{_+_, _-_, _≤_}
 use native.Mathlib.Nat.{add-zero, add-assoc}
 use native.Mathlib.Omega.{arith}
 use lib.ListN.{take, drop}
-use Rattle.lists.specs.Over.{Laying}
+use Rattle.lists.specs.working.Laying.{Laying}
 use Rattle.lists.proofs.Over.{start, fits, fits-rest, more, done}
 use Rattle.groups.proofs.Places.{at-more, at-done}
 use borrow.Author.Needs.{needs}
-use Rattle.groups.specs.Group.{digit}
+use Rattle.groups.specs.working.Group.{digit}
 use Rattle.groups.proofs.group.lay_digits.Statement.{statement}
 use Rattle.groups.proofs.group.lay_digits.Tie as tie
 

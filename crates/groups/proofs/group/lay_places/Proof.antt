@@ -5,11 +5,11 @@ use Prim.Native.Nat.{_+_, _-_, _%_, _≤_}
 use native.Mathlib.Nat.{mod-lt, sub-zero}
 use native.Mathlib.Omega.{arith}
 use lib.ListN.{length, getD, take}
-use Rattle.lists.specs.Over.{Laying}
+use Rattle.lists.specs.working.Laying.{Laying}
 use Rattle.lists.proofs.Over.{start, more-piece, fits-piece, done}
 use Rattle.turbo.specs.Coded.{passed}
-use Rattle.groups.specs.Together.{passedFrom}
-use Rattle.groups.specs.Group.{placesOf, placesFrom}
+use Rattle.groups.specs.working.Together.{passedFrom}
+use Rattle.groups.specs.working.Group.{placesOf, placesFrom}
 use Rattle.groups.proofs.Places.{placesLeft, places-room, places-more, places-done}
 use borrow.Author.Needs.{needs}
 use Rattle.groups.proofs.group.lay_places.Statement.{statement}

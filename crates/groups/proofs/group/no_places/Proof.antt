@@ -1,6 +1,6 @@
 -- The zeros are counted. Assumes nothing.
 use mathlib.Core.Path.{refl}
-use Rattle.groups.specs.Group.{noPlaces}
+use Rattle.groups.specs.working.Group.{noPlaces}
 use Rattle.groups.proofs.group.no_places.Statement.{statement}
 use Rattle.groups.proofs.group.no_places.Tie as tie
 

@@ -1,6 +1,6 @@
 -- Six places, 32 apart. Assumes nothing.
 use mathlib.Core.Path.{refl}
-use Rattle.groups.specs.Group.{placesOf}
+use Rattle.groups.specs.working.Group.{placesOf}
 use borrow.Author.Needs.{needs}
 use Rattle.groups.proofs.group.places_of.Statement.{statement}
 use Rattle.groups.proofs.group.places_of.Tie as tie

@@ -1,8 +1,8 @@
 -- The inputs, the taps of what they fed, and the registers after them. Assumes nothing.
 use mathlib.Core.Path.{ap, _∙_}
-use Rattle.encoder.specs.Number.{registerOf}
-use Rattle.encoder.specs.Inputs.{clocksAt}
-use Rattle.encoder.specs.Fed.{fedOn}
+use Rattle.encoder.specs.working.Number.{registerOf}
+use Rattle.encoder.specs.working.Inputs.{clocksAt}
+use Rattle.encoder.specs.working.Fed.{fedOn}
 use Rattle.encoder.proofs.Halves.{clocks-long, inputs-row}
 use Rattle.groups.proofs.Stands.{stands}
 use borrow.Author.Needs.{needs}

@@ -1,6 +1,6 @@
 -- The zeros are counted. Assumes nothing.
 use mathlib.Core.Path.{refl}
-use Rattle.images.specs.Cleared.{cleared}
+use Rattle.images.specs.working.Cleared.{cleared}
 use Rattle.images.proofs.scratch.block.Statement.{statement}
 use Rattle.images.proofs.scratch.block.Tie as tie
 

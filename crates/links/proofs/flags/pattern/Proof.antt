@@ -1,5 +1,6 @@
 -- Each name has its clocks, and any other none. Assumes nothing.
-use Rattle.links.specs.Patterns.{patterns, clocksIn, padded}
+use Rattle.links.specs.Patterns.{patterns, clocksIn}
+use Rattle.links.specs.working.Padded.{padded}
 use Rattle.links.proofs.Names.{no-clocks}
 use Rattle.links.proofs.flags.pattern.Statement.{statement}
 use Rattle.links.proofs.flags.pattern.Tie as tie

@@ -1,5 +1,6 @@
 -- Each name has its clocks, and any other none. Assumes nothing.
-use Rattle.links.specs.Patterns.{tails, clocksIn, padded}
+use Rattle.links.specs.Patterns.{tails, clocksIn}
+use Rattle.links.specs.working.Padded.{padded}
 use Rattle.links.proofs.Names.{no-clocks}
 use Rattle.links.proofs.flags.tail.Statement.{statement}
 use Rattle.links.proofs.flags.tail.Tie as tie

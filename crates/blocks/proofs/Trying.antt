@@ -12,7 +12,7 @@ use lib.ListN.{length}
 use Rattle.lists.proofs.Tests.{either}
 use Rattle.bits.specs.Row.{differences, flip}
 use Rattle.bits.proofs.Flip.{OneOff, same, flipped, one-off}
-use Rattle.distance.specs.Reading.{firstFlip, tryEach}
+use Rattle.blocks.specs.Reading.{firstFlip, tryEach}
 
 module _ (test : List Bool → Bool) (row a : List Bool) where
   -- ---- what is found passes

@@ -7,8 +7,8 @@ use lib.ListN.{length}
 use Rattle.bits.specs.Row.{number, numberOn}
 use Rattle.turbo.specs.Encoder.{Register, fed}
 use Rattle.turbo.specs.Outputs.{outputs}
-use Rattle.turbo.specs.Parity.{registerAfter}
-use Rattle.encoder.specs.Number.{numberOf}
+use Rattle.turbo.specs.working.Parity.{registerAfter}
+use Rattle.encoder.specs.working.Number.{numberOf}
 
 -- the three old bits and then the new values of a
 unfoldable pub fedOn : Register → List Bool → ℕ

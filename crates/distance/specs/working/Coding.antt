@@ -5,7 +5,7 @@ use mathlib.Core.Bool.{Bool}
 use mathlib.Core.List.{List, [], _∷_, map}
 use Prim.Native.Nat.{ℕ, _≤_}
 use lib.ListN.{length, drop}
-use Rattle.bits.specs.Weave.{weave}
+use Rattle.bits.specs.working.Weave.{weave}
 use Rattle.bits.specs.Xor.{xorRows}
 
 -- up to so many bits the register tells one wrong place from another; no link has more
@@ -16,10 +16,6 @@ longest = 117216
 pub record Coding : Type 0 where
   -- the bits of a block
   pub k : ℕ
-  -- how many of them stand before the check
-  pub before : ℕ
-  -- how many of these hold the datagram; those from there to the check are over
-  pub held : ℕ
   -- N, the bits of an image
   pub size : ℕ
   -- how many parity bits each clock passes on, and which these are for a block

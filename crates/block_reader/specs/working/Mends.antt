@@ -5,7 +5,7 @@ use mathlib.Core.List.{List, map}
 use mathlib.Core.Option.{none, some}
 use Prim.Native.Nat.{ℕ}
 use Rattle.bits.specs.Bits.{isOne, allBits}
-use Rattle.distance.specs.Reading.{candidate}
+use Rattle.distance.specs.working.Candidate.{candidate}
 
 -- it is made into its candidate, where there is one
 pub record Mends (row : List Bool) (new : List ℕ) (closes : Bool) : Type 0 where

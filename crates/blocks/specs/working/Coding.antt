@@ -1,17 +1,14 @@
 -- A link's row as the coding that demand 3 is shown of: the block's bits X at every clock, the parity bits behind them, the tail,
 -- and the scrambler's sequence over all.
-use Prim.Native.Nat.{_*_}
-use Rattle.distance.specs.Coding.{Coding}
+use Rattle.distance.specs.working.Coding.{Coding}
 use Rattle.links.specs.declared.Row.{Row}
-use Rattle.links.specs.Sizes.{openBits, bytesHeld, imageLength}
-use Rattle.turbo.specs.Parity.{parityOf, countsOf, tailBitsOf}
+use Rattle.links.specs.Sizes.{imageLength}
+use Rattle.turbo.specs.working.Parity.{parityOf, countsOf, tailBitsOf}
 use Rattle.scrambler.specs.Scrambler.{loaded, sequence}
 
 unfoldable pub codingOf : Row → Coding
 codingOf row = record {
   k = row .k;
-  before = openBits row;
-  held = bytesHeld row * 8;
   size = imageLength row;
   counts = countsOf row;
   parity = parityOf row;

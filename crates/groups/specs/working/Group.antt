@@ -7,9 +7,9 @@ use lib.Dec.{eqb}
 use lib.ListN.{getD, replicate}
 use Rattle.bits.specs.Bits.{byte}
 use Rattle.turbo.specs.Encoder.{Register}
-use Rattle.turbo.specs.Parity.{registerAfter}
-use Rattle.encoder.specs.Number.{numberOf}
-use Rattle.groups.specs.Together.{sixes}
+use Rattle.turbo.specs.working.Parity.{registerAfter}
+use Rattle.encoder.specs.working.Number.{numberOf}
+use Rattle.groups.specs.working.Together.{sixes}
 
 -- how many of k clocks may go in groups: none where 24 clocks are not whole periods
 abbrev pub inGroups : ℕ → ℕ → ℕ

@@ -1,0 +1,3 @@
+pub mod Candidate
+pub mod Coding
+pub mod Near
