@@ -10,7 +10,7 @@ use borrow.Author.Tests.{le-leb, lt-leb}
 use Rattle.lists.specs.Over.{over}
 use Rattle.lists.proofs.Over.{over-zero}
 use Rattle.answers.specs.Outcome.{laid}
-use Rattle.bits.specs.Datagram.{allBytes, bytesOf}
+use Rattle.bits.specs.Datagram.{allBytes, asBytes}
 use Rattle.datagrams.specs.working.Packed.{packedOver}
 use Rattle.bits.specs.Row.{differences}
 use Rattle.datagrams.proofs.Packed.{packed-bytes}
@@ -33,4 +33,4 @@ pub datagram-laid : (row : Row) (u : List Bool) (old new : List ℕ) {held : ℕ
     → new ≡ packedOver 0 (take (held * 8) u) old → new ≡ laid (datagramOf row u) old
 unfolding datagramOf
 datagram-laid row u old new {held} e bytes long room p =
-    p ∙ packed-bytes 0 held u old bytes long (rw zero-add room) ∙ ap (λ (m : ℕ). over 0 (bytesOf m u) old) e ∙ over-zero (bytesOf (bytesHeld row) u) old
+    p ∙ packed-bytes 0 held u old bytes long (rw zero-add room) ∙ ap (λ (m : ℕ). over 0 (asBytes m u) old) e ∙ over-zero (asBytes (bytesHeld row) u) old

@@ -14,7 +14,8 @@ ghost use Rattle.bits.specs.Row.{differences};
 ghost use Rattle.links.specs.working.Good.{goodRow};
 ghost use Rattle.links.specs.Sizes.{bytesHeld, imageLength};
 ghost use Rattle.blocks.specs.Block.{imageOf};
-ghost use Rattle.blocks.specs.Near.{overPart};
+ghost use Rattle.blocks.specs.Near.{bitsOver};
+ghost use Rattle.blocks.specs.working.Came.{Came};
 ghost use Rattle.accepting.specs.working.Within.{found, within};
 
 // Reading answers a datagram's bytes, with the count of wrong places.
@@ -31,7 +32,7 @@ fn answer(count: u32, wrong: u32) -> Block
 // Whether the bits over, which stand before the check, are zero.
 pub fn over_zero(row: Row, u: &[u8]) -> bool
     requires { ⌜ T (goodRow row) × (length (now u) ≡ row .k) ⌝ }
-    ensures { λ r. ⌜ r ≡ allZero (overPart row (map isOne (now (u .entry)))) ⌝ }
+    ensures { λ r. ⌜ r ≡ allZero (bitsOver row (map isOne (now (u .entry)))) ⌝ }
 {
     let end = links::open_bits(row);
     for i in links::bytes_held(row) * 8..end {
@@ -44,7 +45,7 @@ pub fn over_zero(row: Row, u: &[u8]) -> bool
 
 // In how many places the image of a block differs from what came; above a limit, one more than the limit. image is scratch.
 fn compare(row: Row, u: &[u8], came: &[u8], limit: usize, image: &mut [u8]) -> usize
-    requires { ⌜ T (goodRow row) × (length (now u) ≡ row .k) × (allBits (now u) ≡ true) × (length (now came) ≡ imageLength row) × (allBits (now came) ≡ true) × (length (now image) ≡ imageLength row) ⌝ }
+    requires { ⌜ Came row (now came) × (length (now u) ≡ row .k) × (allBits (now u) ≡ true) × (length (now image) ≡ imageLength row) ⌝ }
     ensures { λ r. ⌜ r ≡ min (differences (imageOf row (map isOne (now (u .entry)))) (map isOne (now (came .entry)))) (limit + 1) ⌝ }
 {
     let k = u.len();
@@ -63,7 +64,7 @@ pub fn accept(
     image: &mut [u8],
     out: &mut [u8],
 ) -> Block
-    requires { ⌜ T (goodRow row) × (length (now u) ≡ row .k) × (allBits (now u) ≡ true) × (length (now came) ≡ imageLength row) × (allBits (now came) ≡ true) × (length (now image) ≡ imageLength row) × (bytesHeld row ≤ length (now out)) ⌝ }
+    requires { ⌜ Came row (now came) × (length (now u) ≡ row .k) × (allBits (now u) ≡ true) × (length (now image) ≡ imageLength row) × (bytesHeld row ≤ length (now out)) ⌝ }
     ensures { λ r. ⌜ Wrote (within limit number row (map isOne (now (came .entry))) (map isOne (now (u .entry)))) (now (out .entry)) (now (out .exit)) r ⌝ }
 {
     let wrong = compare(row, u, came, limit as usize, image);

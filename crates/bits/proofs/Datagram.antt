@@ -16,7 +16,7 @@ use Rattle.lists.proofs.Parts.{drop-take, map-take, map-drop}
 use Rattle.lists.proofs.Tests.{both-true}
 use Rattle.bits.specs.Bits.{isOne}
 use Rattle.bits.specs.Row.{highFirst, number}
-use Rattle.bits.specs.Datagram.{allBytes, bitsOf, filled, bytesOf}
+use Rattle.bits.specs.Datagram.{allBytes, bitsOf, filled, asBytes}
 use Rattle.bits.proofs.Row.{length-highFirst, number-highFirst, highFirst-number, number-lt}
 use Rattle.bits.proofs.Filled.{filled-fits, take-filled}
 
@@ -67,34 +67,34 @@ filled-bitsOf m datagram h =
     ∙ sym (bitsOf-append datagram (replicate (m - length datagram) 0))
 
 -- ---- bits to bytes
-pub length-bytesOf : (m : ℕ) (row : List Bool) → length (bytesOf m row) ≡ m
-unfolding bytesOf
-length-bytesOf zero row = refl
-length-bytesOf (suc m) row = ap suc (length-bytesOf m (drop 8 row))
+pub length-asBytes : (m : ℕ) (row : List Bool) → length (asBytes m row) ≡ m
+unfolding asBytes
+length-asBytes zero row = refl
+length-asBytes (suc m) row = ap suc (length-asBytes m (drop 8 row))
 
 -- only the first m * 8 bits count
-pub bytesOf-take : (m : ℕ) (row : List Bool) → bytesOf m (take (m * 8) row) ≡ bytesOf m row
-unfolding bytesOf
-bytesOf-take zero row = refl
-bytesOf-take (suc m) row =
+pub asBytes-take : (m : ℕ) (row : List Bool) → asBytes m (take (m * 8) row) ≡ asBytes m row
+unfolding asBytes
+asBytes-take zero row = refl
+asBytes-take (suc m) row =
     let n = suc m * 8 in
     let left : n - 8 ≡ m * 8 = omega arith in
-    ap₂ _∷_ (ap number (take-take 8 n row (omega arith))) (ap (bytesOf m) (rw left at (drop-take 8 n row)) ∙ bytesOf-take m (drop 8 row))
+    ap₂ _∷_ (ap number (take-take 8 n row (omega arith))) (ap (asBytes m) (rw left at (drop-take 8 n row)) ∙ asBytes-take m (drop 8 row))
 
-pub bytesOf-append : (m : ℕ) (row rest : List Bool) → m * 8 ≤ length row → bytesOf m (row ++ rest) ≡ bytesOf m row
-bytesOf-append m row rest h = sym (bytesOf-take m (row ++ rest)) ∙ ap (bytesOf m) (take-append-le (m * 8) row rest h) ∙ bytesOf-take m row
+pub asBytes-append : (m : ℕ) (row rest : List Bool) → m * 8 ≤ length row → asBytes m (row ++ rest) ≡ asBytes m row
+asBytes-append m row rest h = sym (asBytes-take m (row ++ rest)) ∙ ap (asBytes m) (take-append-le (m * 8) row rest h) ∙ asBytes-take m row
 
-bytesOf-filled : (m n : ℕ) (row : List Bool) → m * 8 ≤ n → bytesOf m (filled n row) ≡ bytesOf m (filled (m * 8) row)
-bytesOf-filled m n row h = sym (bytesOf-take m (filled n row)) ∙ ap (bytesOf m) (take-filled (m * 8) n row h)
+asBytes-filled : (m n : ℕ) (row : List Bool) → m * 8 ≤ n → asBytes m (filled n row) ≡ asBytes m (filled (m * 8) row)
+asBytes-filled m n row h = sym (asBytes-take m (filled n row)) ∙ ap (asBytes m) (take-filled (m * 8) n row h)
 
 -- what they make are bytes
 pub byte-small : (row : List Bool) → number (take 8 row) < 256
 byte-small row = omega (arith, number-lt (take 8 row), pow-le-pow-right {n = 2} (zero-lt-suc 1) {i = length (take 8 row)} {j = 8} (simp length-take (omega arith)))
 
-pub bytesOf-small : (m : ℕ) (row : List Bool) → allBytes (bytesOf m row) ≡ true
-unfolding bytesOf every
-bytesOf-small zero row = refl
-bytesOf-small (suc m) row = rw (lt-ltb (number (take 8 row)) 256 (byte-small row)) (bytesOf-small m (drop 8 row))
+pub asBytes-small : (m : ℕ) (row : List Bool) → allBytes (asBytes m row) ≡ true
+unfolding asBytes every
+asBytes-small zero row = refl
+asBytes-small (suc m) row = rw (lt-ltb (number (take 8 row)) 256 (byte-small row)) (asBytes-small m (drop 8 row))
 
 -- the bits behind byte j
 pub after-byte : (j : ℕ) (row : List ℕ) → map isOne (drop ((j + 1) * 8) row) ≡ drop 8 (map isOne (drop (j * 8) row))
@@ -102,12 +102,12 @@ after-byte j row = let next : (j + 1) * 8 ≡ j * 8 + 8 = omega arith in rw (nex
 
 -- byte by byte: what is left to lay at j begins with the byte that the row's next eight bits make
 pub bytes-more : (m j : ℕ) (row : List ℕ) → j < m
-    → bytesOf (m - j) (map isOne (drop (j * 8) row)) ≡ number (take 8 (map isOne (drop (j * 8) row))) ∷ bytesOf (m - (j + 1)) (map isOne (drop ((j + 1) * 8) row))
-unfolding bytesOf
+    → asBytes (m - j) (map isOne (drop (j * 8) row)) ≡ number (take 8 (map isOne (drop (j * 8) row))) ∷ asBytes (m - (j + 1)) (map isOne (drop ((j + 1) * 8) row))
+unfolding asBytes
 bytes-more m j row h = let left : m - j ≡ suc (m - (j + 1)) = omega arith in rw (left, after-byte j row)
 
-pub bytes-done : (m j : ℕ) (row : List ℕ) → m ≤ j → bytesOf (m - j) (map isOne (drop (j * 8) row)) ≡ []
-unfolding bytesOf
+pub bytes-done : (m j : ℕ) (row : List ℕ) → m ≤ j → asBytes (m - j) (map isOne (drop (j * 8) row)) ≡ []
+unfolding asBytes
 bytes-done m j row h = let none : m - j ≡ 0 = omega arith in rw none
 
 -- the eight bits of a part that is lent
@@ -115,33 +115,33 @@ pub part-bits : (at : ℕ) (row : List ℕ) → map isOne (take (at + 8 - at) (d
 part-bits at row = let eight : at + 8 - at ≡ 8 = omega arith in rw eight (map-take isOne 8 (drop at row))
 
 -- ---- there and back
-pub bytesOf-bitsOf : (datagram : List ℕ) → allBytes datagram ≡ true → bytesOf (length datagram) (bitsOf datagram) ≡ datagram
-unfolding bitsOf bytesOf every
-bytesOf-bitsOf [] e = refl
-bytesOf-bitsOf (b ∷ datagram) e =
+pub asBytes-bitsOf : (datagram : List ℕ) → allBytes datagram ≡ true → asBytes (length datagram) (bitsOf datagram) ≡ datagram
+unfolding bitsOf asBytes every
+asBytes-bitsOf [] e = refl
+asBytes-bitsOf (b ∷ datagram) e =
     let p = both-true (ltb b 256) (allBytes datagram) e in
     let first = take-at (highFirst 8 b) (bitsOf datagram) 8 (length-highFirst 8 b) in
     let rest = drop-at (highFirst 8 b) (bitsOf datagram) 8 (length-highFirst 8 b) in
-    ap₂ _∷_ (ap number first ∙ number-highFirst 8 b (ltb-true b 256 (p .0))) (ap (bytesOf (length datagram)) rest ∙ bytesOf-bitsOf datagram (p .1))
+    ap₂ _∷_ (ap number first ∙ number-highFirst 8 b (ltb-true b 256 (p .0))) (ap (asBytes (length datagram)) rest ∙ asBytes-bitsOf datagram (p .1))
 
 -- eight bits are those of the byte that they make
 pub byte-bits : (row : List Bool) → 8 ≤ length row → highFirst 8 (number (take 8 row)) ≡ take 8 row
 byte-bits row h = rw (length-take-le 8 row h) at (highFirst-number (take 8 row))
 
 -- bits that are whole bytes are those of the bytes that they make
-pub bitsOf-bytesOf : (m : ℕ) (row : List Bool) → length row ≡ m * 8 → bitsOf (bytesOf m row) ≡ row
-unfolding bitsOf bytesOf
-bitsOf-bytesOf zero [] e = refl
-bitsOf-bytesOf zero (b ∷ row) e = absurd (omega arith)
-bitsOf-bytesOf (suc m) row e =
-    ap₂ _++_ (byte-bits row (omega arith)) (bitsOf-bytesOf m (drop 8 row) (simp length-drop (omega arith))) ∙ take-append-drop 8 row
+pub bitsOf-asBytes : (m : ℕ) (row : List Bool) → length row ≡ m * 8 → bitsOf (asBytes m row) ≡ row
+unfolding bitsOf asBytes
+bitsOf-asBytes zero [] e = refl
+bitsOf-asBytes zero (b ∷ row) e = absurd (omega arith)
+bitsOf-asBytes (suc m) row e =
+    ap₂ _++_ (byte-bits row (omega arith)) (bitsOf-asBytes m (drop 8 row) (simp length-drop (omega arith))) ∙ take-append-drop 8 row
 
 -- m bytes of the bits of a datagram, of which n were kept, are the datagram filled with zero bytes
 pub datagram-back : (m n : ℕ) (datagram : List ℕ) → allBytes datagram ≡ true → length datagram ≤ m → m * 8 ≤ n
-    → bytesOf m (filled n (bitsOf datagram)) ≡ datagram ++ replicate (m - length datagram) 0
+    → asBytes m (filled n (bitsOf datagram)) ≡ datagram ++ replicate (m - length datagram) 0
 datagram-back m n datagram e h l =
     let whole = datagram ++ replicate (m - length datagram) 0 in
     let long : length whole ≡ m = simp (length-append, length-replicate) (omega arith) in
-    bytesOf-filled m n (bitsOf datagram) l
-    ∙ ap (bytesOf m) (filled-bitsOf m datagram h)
-    ∙ rw long at (bytesOf-bitsOf whole (every-append _ datagram (replicate (m - length datagram) 0) e (every-replicate _ (m - length datagram) 0 refl)))
+    asBytes-filled m n (bitsOf datagram) l
+    ∙ ap (asBytes m) (filled-bitsOf m datagram h)
+    ∙ rw long at (asBytes-bitsOf whole (every-append _ datagram (replicate (m - length datagram) 0) e (every-replicate _ (m - length datagram) 0 refl)))

@@ -20,6 +20,6 @@ unfoldable pub filled : ℕ → List Bool → List Bool
 filled n row = take n (row ++ replicate n false)
 
 -- the m bytes that a row begins with
-unfoldable pub bytesOf : ℕ → List Bool → List ℕ
-bytesOf zero row = []
-bytesOf (suc m) row = number (take 8 row) ∷ bytesOf m (drop 8 row)
+unfoldable pub asBytes : ℕ → List Bool → List ℕ
+asBytes zero row = []
+asBytes (suc m) row = number (take 8 row) ∷ asBytes m (drop 8 row)

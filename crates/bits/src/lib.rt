@@ -24,10 +24,10 @@ pub fn all_bits(bytes: &[u8]) -> bool
 }
 
 // The bit that a byte holds.
-fn bit_in(held: u8) -> u32
-    ensures { λ r. ⌜ r ≡ byte (isOne held) ⌝ }
+fn bit_in(b: u8) -> u32
+    ensures { λ r. ⌜ r ≡ byte (isOne b) ⌝ }
 {
-    if held == 1 { 1 } else { 0 }
+    if b == 1 { 1 } else { 0 }
 }
 
 // The number that a row of up to 32 bits makes, the first the highest.

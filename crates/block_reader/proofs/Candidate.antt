@@ -19,7 +19,7 @@ use Rattle.links.specs.Sizes.{imageLength}
 use Rattle.distance.specs.working.Candidate.{candidate}
 use Rattle.distance.proofs.Candidate.{candidate-closes}
 use Rattle.blocks.specs.Block.{imageOf}
-use Rattle.blocks.specs.Near.{overPart, Near}
+use Rattle.blocks.specs.Near.{bitsOver, Near}
 use Rattle.blocks.specs.Reading.{received, readByTrying}
 use Rattle.blocks.specs.Calls.{refused, answered}
 use Rattle.blocks.proofs.Exact.{near-candidate, exact}
@@ -51,11 +51,11 @@ module _ (row : Row) (good : T (goodRow row)) (came : List Bool) (size : length 
     same : (v : List Bool) → candidate (received row came) ≡ some v → v ≡ map isOne new
     same v c = let e : some v ≡ some (map isOne new) = sym c ∙ only in cc
 
-    pub over-refused : allZero (overPart row (map isOne new)) ≡ false → answered row came (readByTrying row came) ≡ refused noBlock
+    pub over-refused : allZero (bitsOver row (map isOne new)) ≡ false → answered row came (readByTrying row came) ≡ refused noBlock
     over-refused over =
-        none-near (λ v c n. true≢false (sym (valid-over row v (n .right)) ∙ ap (λ (w : List Bool). allZero (overPart row w)) (same v c) ∙ over))
+        none-near (λ v c n. true≢false (sym (valid-over row v (n .right)) ∙ ap (λ (w : List Bool). allZero (bitsOver row w)) (same v c) ∙ over))
 
-    module _ (long : length new ≡ row .k) (zero : allZero (overPart row (map isOne new)) ≡ true) where
+    module _ (long : length new ≡ row .k) (zero : allZero (bitsOver row (map isOne new)) ≡ true) where
       near : differences (imageOf row (map isOne new)) came ≤ 1 → Near row came (map isOne new)
       near h = record { right = valid-from row (map isOne new) (length-map new isOne ∙ long) (candidate-closes _ _ only .1) zero; within = h }
 

@@ -8,13 +8,12 @@ ghost use mathlib.Core.Path.{_≡_};
 ghost use mathlib.Core.Bool.{true};
 ghost use mathlib.Core.List.{map};
 ghost use Prim.Native.Nat.{_≤_};
-ghost use lib.Dec.{T};
 ghost use lib.ListN.{length};
 ghost use Rattle.answers.specs.Outcome.{Wrote};
 ghost use Rattle.bits.specs.Bits.{isOne, allBits};
-ghost use Rattle.links.specs.working.Good.{goodRow};
 ghost use Rattle.links.specs.Sizes.{bytesHeld, imageLength};
 ghost use Rattle.blocks.specs.Reading.{readByTrying};
+ghost use Rattle.blocks.specs.working.Came.{Came};
 ghost use Rattle.blocks.specs.Calls.{answered, readBlock};
 ghost use Rattle.block_reader.specs.working.Mends.{Mends};
 
@@ -39,7 +38,7 @@ fn mend(u: &mut [u8]) -> bool
 
 // Reads bits, as many as the row's images have, into a buffer with room for the datagram. u and image are scratch.
 fn read_block(row: Row, came: &[u8], u: &mut [u8], image: &mut [u8], out: &mut [u8]) -> Block
-    requires { ⌜ T (goodRow row) × (length (now came) ≡ imageLength row) × (allBits (now came) ≡ true) × (length (now u) ≡ row .k) × (length (now image) ≡ imageLength row) × (bytesHeld row ≤ length (now out)) ⌝ }
+    requires { ⌜ Came row (now came) × (length (now u) ≡ row .k) × (length (now image) ≡ imageLength row) × (bytesHeld row ≤ length (now out)) ⌝ }
     ensures { λ r. ⌜ Wrote (answered row (map isOne (now (came .entry))) (readByTrying row (map isOne (now (came .entry))))) (now (out .entry)) (now (out .exit)) r ⌝ }
 {
     receive(row, came, image, u);
@@ -54,7 +53,7 @@ fn read_block(row: Row, came: &[u8], u: &mut [u8], image: &mut [u8], out: &mut [
 
 // The same, with scratch of its own.
 fn read_row(row: Row, came: &[u8], out: &mut [u8]) -> Block
-    requires { ⌜ T (goodRow row) × (length (now came) ≡ imageLength row) × (allBits (now came) ≡ true) × (bytesHeld row ≤ length (now out)) ⌝ }
+    requires { ⌜ Came row (now came) × (bytesHeld row ≤ length (now out)) ⌝ }
     ensures { λ r. ⌜ Wrote (answered row (map isOne (now (came .entry))) (readByTrying row (map isOne (now (came .entry))))) (now (out .entry)) (now (out .exit)) r ⌝ }
 {
     let k = row.k as usize;

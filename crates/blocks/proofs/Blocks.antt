@@ -12,8 +12,8 @@ use lib.Seq.{take-at, take-take, length-take-le}
 use borrow.Author.Tests.{not-true}
 use Rattle.lists.proofs.Every.{every-replicate, every-only}
 use Rattle.bits.specs.Bits.{byte, allZero}
-use Rattle.bits.specs.Datagram.{bitsOf, filled, bytesOf, allBytes}
-use Rattle.bits.proofs.Datagram.{length-bitsOf, length-bytesOf, bytesOf-take, bytesOf-append, bytesOf-small, bitsOf-bytesOf, datagram-back}
+use Rattle.bits.specs.Datagram.{bitsOf, filled, asBytes, allBytes}
+use Rattle.bits.proofs.Datagram.{length-bitsOf, length-asBytes, asBytes-take, asBytes-append, asBytes-small, bitsOf-asBytes, datagram-back}
 use Rattle.bits.proofs.Filled.{length-filled, filled-fits, drop-filled}
 use Rattle.bits.proofs.Row.{length-highFirst}
 use Rattle.check32.specs.Check.{register, checkBits}
@@ -23,17 +23,17 @@ use Rattle.links.specs.working.Good.{goodRow}
 use Rattle.links.specs.Sizes.{openBits, bytesHeld, imageLength}
 use Rattle.links.proofs.Facts.{sizes}
 use Rattle.blocks.specs.Block.{opening, blockOf, imageOf, datagramOf, zeroFilled}
-use Rattle.blocks.specs.Near.{overPart, Valid}
+use Rattle.blocks.specs.Near.{bitsOver, Valid}
 use Rattle.blocks.proofs.Sound.{length-image}
 use Rattle.blocks.proofs.Valid.{valid-from, valid-length, valid-closes, valid-over}
 
 pub length-datagram : (row : Row) (u : List Bool) → length (datagramOf row u) ≡ bytesHeld row
 unfolding datagramOf
-length-datagram row u = length-bytesOf (bytesHeld row) u
+length-datagram row u = length-asBytes (bytesHeld row) u
 
 pub datagram-bytes : (row : Row) (u : List Bool) → allBytes (datagramOf row u) ≡ true
 unfolding datagramOf
-datagram-bytes row u = bytesOf-small (bytesHeld row) u
+datagram-bytes row u = asBytes-small (bytesHeld row) u
 
 module _ (row : Row) (good : T (goodRow row)) (datagram : List ℕ) where
   length-opening : length (opening row datagram) ≡ openBits row
@@ -55,7 +55,7 @@ module _ (row : Row) (good : T (goodRow row)) (datagram : List ℕ) where
 
   module _ (fits : length datagram ≤ bytesHeld row) where
     -- the bits over are zero
-    over-zero : allZero (overPart row (blockOf row datagram)) ≡ true
+    over-zero : allZero (bitsOver row (blockOf row datagram)) ≡ true
     unfolding blockOf allZero
     over-zero =
         rw (
@@ -74,7 +74,7 @@ module _ (row : Row) (good : T (goodRow row)) (datagram : List ℕ) where
     unfolding datagramOf blockOf zeroFilled
     datagram-in-block e =
         let room : bytesHeld row * 8 ≤ openBits row = omega (arith, sizes row good .whole) in
-        bytesOf-append (bytesHeld row) (opening row datagram) (checkBits (opening row datagram)) (omega (arith, length-opening))
+        asBytes-append (bytesHeld row) (opening row datagram) (checkBits (opening row datagram)) (omega (arith, length-opening))
         ∙ datagram-back (bytesHeld row) (openBits row) datagram e fits room
 
 -- ---- what a valid block is made of
@@ -89,7 +89,7 @@ module _ (row : Row) (good : T (goodRow row)) (u : List Bool) (v : Valid row u) 
       let room : m * 8 ≤ n = omega (arith, sizes row good .whole) in
       let size : length (take n u) ≡ n = length-take-le n u (omega arith) in
       let bytes : length (take (m * 8) u) ≡ m * 8 = length-take-le (m * 8) u (omega arith) in
-      let held : bitsOf (bytesOf m u) ≡ take (m * 8) u = ap bitsOf (sym (bytesOf-take m u)) ∙ bitsOf-bytesOf m (take (m * 8) u) bytes in
+      let held : bitsOf (asBytes m u) ≡ take (m * 8) u = ap bitsOf (sym (asBytes-take m u)) ∙ bitsOf-asBytes m (take (m * 8) u) bytes in
       let left : length (drop (m * 8) (take n u)) ≡ n - length (take (m * 8) u) = length-drop (m * 8) (take n u) ∙ ap₂ _-_ size (sym bytes) in
       let zeros = every-only not false not-true (drop (m * 8) (take n u)) (valid-over row u v) in
       sym (take-append-drop (m * 8) (take n u))

@@ -3,7 +3,7 @@ use mathlib.Core.Bool.{Bool}
 use mathlib.Core.List.{List, _++_}
 use Prim.Native.Nat.{ℕ, _-_}
 use lib.ListN.{length, replicate}
-use Rattle.bits.specs.Datagram.{bitsOf, filled, bytesOf}
+use Rattle.bits.specs.Datagram.{bitsOf, filled, asBytes}
 use Rattle.check32.specs.Check.{checkBits}
 use Rattle.links.specs.declared.Row.{Row}
 use Rattle.links.specs.Sizes.{openBits, bytesHeld}
@@ -24,7 +24,7 @@ imageOf row u = scrambled (coded row u)
 
 -- the datagram in a block: all the bytes that the link holds
 unfoldable pub datagramOf : Row → List Bool → List ℕ
-datagramOf row u = bytesOf (bytesHeld row) u
+datagramOf row u = asBytes (bytesHeld row) u
 
 -- a datagram filled with zero bytes to its link's size
 unfoldable pub zeroFilled : Row → List ℕ → List ℕ

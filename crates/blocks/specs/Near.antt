@@ -13,13 +13,13 @@ use Rattle.links.specs.declared.Row.{Row}
 use Rattle.links.specs.Sizes.{openBits, bytesHeld}
 use Rattle.blocks.specs.Block.{imageOf}
 
--- the part over, behind the datagram's bits and before the check: four bits on link 12
-abbrev pub overPart : Row → List Bool → List Bool
-overPart row u = drop (bytesHeld row * 8) (take (openBits row) u)
+-- the bits over, behind the datagram's and before the check: four on link 12
+abbrev pub bitsOver : Row → List Bool → List Bool
+bitsOver row u = drop (bytesHeld row * 8) (take (openBits row) u)
 
--- k bits, the check right, the part over zero
+-- k bits, the check right, the bits over zero
 unfoldable pub valid : Row → List Bool → Bool
-valid row u = eqb (length u) (row .k) && (eqb (register u) 0 && allZero (overPart row u))
+valid row u = eqb (length u) (row .k) && (eqb (register u) 0 && allZero (bitsOver row u))
 
 abbrev pub Valid : Row → List Bool → Type 0
 Valid row u = valid row u ≡ true

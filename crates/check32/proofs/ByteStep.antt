@@ -1,4 +1,4 @@
--- Eight bits at once: the register moves up, and its own top byte and the byte that comes in leave one residue, which the table has.
+-- Eight bits at once: the register moves up, and its own top byte and the byte that comes in leave one mark, which the table has.
 -- Assumes nothing.
 use mathlib.Core.Path.{_≡_, sym, ap, ap₂, _∙_}
 use mathlib.Core.List.{List, map}

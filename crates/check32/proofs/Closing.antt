@@ -11,7 +11,8 @@ use Rattle.bits.specs.Bits.{byte}
 use Rattle.bits.specs.Row.{highFirst, number}
 use Rattle.bits.proofs.Row.{highFirst-number, number-lt}
 use Rattle.bits.proofs.Xor.{⊕-cancel}
-use Rattle.check32.specs.Check.{x32, timesX, step, registerFrom, loaded, register, checkBits, Closes}
+use Rattle.check32.specs.Check.{x32, timesX, step, registerFrom, loaded, register, checkBits}
+use Rattle.check32.specs.working.Closes.{Closes}
 use Rattle.check32.proofs.Linear.{registerFrom-append}
 use Rattle.check32.proofs.OwnBits.{own-bits}
 use Rattle.check32.proofs.TimesX.{timesX-equal}

@@ -3,8 +3,8 @@ pub mod ByteTable
 pub mod Closing
 pub mod Fast
 pub mod Linear
+pub mod Marks
 pub mod OwnBits
-pub mod Residue
 pub mod TimesX
 pub mod Vectors
 pub mod Word

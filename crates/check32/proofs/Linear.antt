@@ -1,4 +1,4 @@
--- The register is linear in what it starts with and the bits together, so a wrong bit adds its residue.
+-- The register is linear in what it starts with and the bits together, so a wrong bit adds its mark.
 -- Assumes nothing.
 use mathlib.Core.Path.{_≡_, refl, sym, ap, ap₂, _∙_}
 use mathlib.Core.Bool.{Bool, true, false, not, xor}
@@ -12,7 +12,7 @@ use Rattle.bits.specs.Row.{flip}
 use Rattle.bits.specs.Xor.{_⊕_, xorRows}
 use Rattle.bits.proofs.Xor.{⊕-assoc, ⊕-comm, ⊕-self, ⊕-zero, zero-⊕, ⊕-middle}
 use Rattle.check32.specs.Check.{x32, timesX, step, registerFrom}
-use Rattle.check32.specs.working.Marks.{residue}
+use Rattle.check32.specs.working.Marks.{mark}
 use Rattle.check32.proofs.TimesX.{timesX-⊕}
 
 pub registerFrom-append : (r : ℕ) (a b : List Bool) → registerFrom r (a ++ b) ≡ registerFrom (registerFrom r a) b
@@ -41,21 +41,21 @@ registerFrom-xor r s (x ∷ a) (y ∷ b) e =
     ap (λ (v : ℕ). registerFrom v (xorRows a b)) (step-xor r s x y) ∙ registerFrom-xor (step r x) (step s y) a b (omega arith)
 
 -- ---- one wrong bit
--- a residue in the register moves on with every bit
-carried : (r n : ℕ) (row : List Bool) → registerFrom (r ⊕ residue n) row ≡ registerFrom r row ⊕ residue (n + length row)
+-- a mark in the register moves on with every bit
+carried : (r n : ℕ) (row : List Bool) → registerFrom (r ⊕ mark n) row ≡ registerFrom r row ⊕ mark (n + length row)
 unfolding registerFrom
 carried r n [] = rw add-zero
 carried r n (b ∷ row) = ap (λ (v : ℕ). registerFrom v row) moved ∙ carried (step r b) (suc n) row ∙ rw (suc-add, add-suc)
   where
-    moved : step (r ⊕ residue n) b ≡ step r b ⊕ residue (suc n)
-    moved = unfold step residue in ap (λ (v : ℕ). (byte b * x32) ⊕ v) (timesX-⊕ r (residue n)) ∙ sym (⊕-assoc (byte b * x32) (timesX r) (timesX (residue n)))
+    moved : step (r ⊕ mark n) b ≡ step r b ⊕ mark (suc n)
+    moved = unfold step mark in ap (λ (v : ℕ). (byte b * x32) ⊕ v) (timesX-⊕ r (mark n)) ∙ sym (⊕-assoc (byte b * x32) (timesX r) (timesX (mark n)))
 
-inverted : (r : ℕ) (b : Bool) → step r (not b) ≡ step r b ⊕ residue 0
-unfolding step residue
+inverted : (r : ℕ) (b : Bool) → step r (not b) ≡ step r b ⊕ mark 0
+unfolding step mark
 inverted r true = sym (⊕-comm (x32 ⊕ timesX r) x32 ∙ sym (⊕-assoc x32 x32 (timesX r)) ∙ ap (λ (v : ℕ). v ⊕ timesX r) (⊕-self x32))
 inverted r false = ⊕-comm x32 (timesX r) ∙ ap (λ (v : ℕ). v ⊕ x32) (sym (zero-⊕ (timesX r)))
 
-pub registerFrom-flip : (r i : ℕ) (row : List Bool) → i < length row → registerFrom r (flip i row) ≡ registerFrom r row ⊕ residue (length row - suc i)
+pub registerFrom-flip : (r i : ℕ) (row : List Bool) → i < length row → registerFrom r (flip i row) ≡ registerFrom r row ⊕ mark (length row - suc i)
 unfolding registerFrom flip
 registerFrom-flip r i [] h = absurd (omega arith)
 registerFrom-flip r zero (b ∷ row) h =

@@ -1,6 +1,5 @@
 -- The 32-bit check (document 01, "From datagram to block"; M.2092-1, Annex 2, 1.2.5): a row of bits goes, the first first, through
 -- a register of 32 bits, which is a number here: its digit i is the coefficient of x^i.
-use mathlib.Core.Path.{_≡_}
 use mathlib.Core.Bool.{Bool}
 use mathlib.Core.List.{List, [], _∷_}
 use Prim.Native.Nat.{ℕ, _*_, _/_, _%_, _^_}
@@ -39,7 +38,3 @@ register row = registerFrom loaded row
 -- the check bits of a row: what the register then holds, the highest bit first, with no complement
 abbrev pub checkBits : List Bool → List Bool
 checkBits row = highFirst 32 (register row)
-
--- a row that ends with its check is right if the register over all its bits ends at zero
-abbrev pub Closes : List Bool → Type 0
-Closes row = register row ≡ 0

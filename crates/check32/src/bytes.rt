@@ -1,9 +1,9 @@
 // What a byte alone leaves in the check's register (M.2092-1, Annex 2, 1.2.5), for the check of eight bits at a time.
 ghost use mathlib.Core.Path.{_≡_};
-ghost use Rattle.check32.specs.working.Bytes.{byteResidues};
+ghost use Rattle.check32.specs.working.Bytes.{byteMarks};
 
 // The register, from zero, after each byte below 16, and then after each multiple of 16: a byte leaves what its two halves leave, added.
-const RESIDUES: [u32; 32] = [
+const MARKS: [u32; 32] = [
     0x00000000,
     0x04C11DB7,
     0x09823B6E,
@@ -39,8 +39,8 @@ const RESIDUES: [u32; 32] = [
 ];
 
 // The table, handed out by a function so that its numbers stand in no other proof.
-pub fn residues() -> [u32; 32]
-    ensures { λ r. ⌜ r ≡ byteResidues ⌝ }
+pub fn marks() -> [u32; 32]
+    ensures { λ r. ⌜ r ≡ byteMarks ⌝ }
 {
-    RESIDUES
+    MARKS
 }

@@ -5,7 +5,7 @@ ghost use mathlib.Core.Path.{_≡_};
 ghost use mathlib.Core.List.{map};
 ghost use Rattle.bits.specs.Bits.{isOne};
 ghost use Rattle.bits.specs.Row.{highFirst};
-ghost use Rattle.check32.specs.working.Bytes.{byteResidues};
+ghost use Rattle.check32.specs.working.Bytes.{byteMarks};
 ghost use Rattle.check32.specs.Check.{step, registerFrom, loaded};
 ghost use Rattle.check32.specs.working.Marks.{bitsAfter};
 
@@ -18,14 +18,14 @@ pub fn step(r: u32, bit: bool) -> u32
 }
 
 // Eight bits go in at once, the highest of a byte first: the register moves up by eight places, and what falls out of it and the byte
-// together leave their residue.
-fn step_byte(r: u32, byte: u8, residues: &[u32; 32]) -> u32
-    requires { ⌜ now residues ≡ byteResidues ⌝ }
+// together leave their mark.
+fn step_byte(r: u32, byte: u8, marks: &[u32; 32]) -> u32
+    requires { ⌜ now marks ≡ byteMarks ⌝ }
     ensures { λ v. ⌜ v ≡ registerFrom r (highFirst 8 byte) ⌝ }
 {
     let out = ((r >> 24) as u8) ^ byte;
-    let low = residues[(out % 16) as usize];
-    let high = residues[(out / 16) as usize + 16];
+    let low = marks[(out % 16) as usize];
+    let high = marks[(out / 16) as usize + 16];
     (r << 8) ^ (high ^ low)
 }
 
@@ -40,10 +40,10 @@ pub fn load() -> u32
 pub fn register(from: u32, bits: &[u8]) -> u32
     ensures { λ r. ⌜ r ≡ registerFrom from (map isOne (now (bits .entry))) ⌝ }
 {
-    let residues = bytes::residues();
+    let marks = bytes::marks();
     let mut r = from;
     for j in 0..bits.len() / 8 {
-        r = step_byte(r, bits::byte_at(bits, j), &residues);
+        r = step_byte(r, bits::byte_at(bits, j), &marks);
     }
     // the rest, bit by bit
     for i in bits.len() / 8 * 8..bits.len() {
@@ -56,12 +56,12 @@ pub fn register(from: u32, bits: &[u8]) -> u32
 pub fn bits_after(register: u32, k: usize) -> usize
     ensures { λ n. ⌜ n ≡ bitsAfter register k ⌝ }
 {
-    let mut residue: u32 = 0x04C11DB7;
+    let mut mark: u32 = 0x04C11DB7;
     for n in 0..k {
-        if residue == register {
+        if mark == register {
             return n;
         }
-        residue = step(residue, false);
+        mark = step(mark, false);
     }
     k
 }

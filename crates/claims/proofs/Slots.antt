@@ -26,7 +26,8 @@ use Rattle.words.proofs.Apart as words
 use Rattle.slots.specs.declared.Slot.{Slot}
 use Rattle.slots.specs.Burst.{trainingPart, wordPart, blockPart, isSlotLink, burstLength, burstOf}
 use Rattle.slots.specs.Near.{Near}
-use Rattle.slots.specs.Calls.{slotTask, readSlot, refused as refusal, reading}
+use Rattle.slots.specs.Calls.{slotTask, readSlot, refused as refusal}
+use Rattle.slots.specs.working.Reading.{reading}
 use Rattle.slots.proofs.Answered.{burst-answered}
 use Rattle.slots.proofs.Links.{slot-offered, slot-has-word}
 use Rattle.slots.proofs.Parts.{training-of-burst, word-of-burst, block-of-burst}

@@ -9,11 +9,11 @@ use clock::six;
 use ending::end;
 ghost use mathlib.Core.Path.{_≡_};
 ghost use Prim.Native.Nat.{_+_, _%_, _≤_, _<_};
-ghost use lib.ListN.{length, take};
+ghost use lib.ListN.{take};
 ghost use Rattle.lists.specs.Over.{Room};
 ghost use Rattle.lists.specs.working.Laying.{Lays};
 ghost use Rattle.encoder.specs.working.Number.{registerOf};
-ghost use Rattle.clocks.specs.working.Encode.{Ready, left};
+ghost use Rattle.clocks.specs.working.Encode.{ReadyFrom, left};
 
 // The next clock's place in a pattern, which begins again after `period` clocks.
 fn next_clock(c: usize, period: usize) -> usize
@@ -36,7 +36,7 @@ pub fn lay_rest(
     place: usize,
     out: &mut [u8],
 ) -> usize
-    requires { ⌜ Ready (now u) (now v) pattern period tail ⌝ ∗ ⌜ (from ≤ length (now u)) × (from % period ≡ 0) × (a < 8) × (b < 8) ⌝ ∗ ⌜ Room place (left (take period pattern) tail (now u) (now v) from (registerOf a) (registerOf b)) (now out) ⌝ }
+    requires { ⌜ ReadyFrom (now u) (now v) pattern period tail from a b ⌝ ∗ ⌜ Room place (left (take period pattern) tail (now u) (now v) from (registerOf a) (registerOf b)) (now out) ⌝ }
     ensures { λ r. ⌜ Lays place (left (take period pattern) tail (now (u .entry)) (now (v .entry)) from (registerOf a) (registerOf b)) (now (out .entry)) (now (out .exit)) r ⌝ }
 {
     let mut at = place;

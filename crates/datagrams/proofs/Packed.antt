@@ -15,9 +15,9 @@ use Rattle.lists.specs.Over.{over}
 use Rattle.lists.proofs.Every.{each-every}
 use Rattle.lists.proofs.Over.{over-nil, over-set, over-length, over-over, over-first, over-second, over-every}
 use Rattle.bits.specs.Row.{highFirst}
-use Rattle.bits.specs.Datagram.{allBytes, bitsOf, bytesOf}
+use Rattle.bits.specs.Datagram.{allBytes, bitsOf, asBytes}
 use Rattle.datagrams.specs.working.Packed.{packedOver}
-use Rattle.bits.proofs.Datagram.{length-bitsOf, bitsOf-append, take-bitsOf, drop-bitsOf, length-bytesOf, bytesOf-take, bytesOf-small, bytesOf-bitsOf, bitsOf-bytesOf}
+use Rattle.bits.proofs.Datagram.{length-bitsOf, bitsOf-append, take-bitsOf, drop-bitsOf, length-asBytes, asBytes-take, asBytes-small, asBytes-bitsOf, bitsOf-asBytes}
 use Rattle.bits.proofs.Row.{length-highFirst}
 
 -- what a buffer of bytes is known to hold
@@ -28,12 +28,12 @@ bytes-known l known = each-every (λ x. ltb x 256) 0 l (λ i h. lt-ltb (getD l i
 packed-is : (at : ℕ) (bits : List Bool) (old new : List ℕ) → allBytes new ≡ true → length new ≡ length old → bitsOf new ≡ over at bits (bitsOf old)
     → new ≡ packedOver at bits old
 unfolding packedOver
-packed-is at bits old new bytes long e = sym (bytesOf-bitsOf new bytes) ∙ ap₂ bytesOf long e
+packed-is at bits old new bytes long e = sym (asBytes-bitsOf new bytes) ∙ ap₂ asBytes long e
 
 -- ---- piece by piece
-length-packed : (at : ℕ) (bits : List Bool) (old : List ℕ) → length (packedOver at bits old) ≡ length old
+length-packedOver : (at : ℕ) (bits : List Bool) (old : List ℕ) → length (packedOver at bits old) ≡ length old
 unfolding packedOver
-length-packed at bits old = length-bytesOf (length old) (over at bits (bitsOf old))
+length-packedOver at bits old = length-asBytes (length old) (over at bits (bitsOf old))
 
 -- no bits laid change nothing
 pub packed-none : (at : ℕ) (bits : List Bool) (old : List ℕ) → allBytes old ≡ true → length bits ≤ 0 → old ≡ packedOver at bits old
@@ -43,14 +43,14 @@ packed-none at (b ∷ bits) old bytes h = absurd (omega arith)
 packed-bits : (at : ℕ) (bits : List Bool) (old : List ℕ) → at + length bits ≤ length old * 8 → bitsOf (packedOver at bits old) ≡ over at bits (bitsOf old)
 unfolding packedOver
 packed-bits at bits old h =
-    bitsOf-bytesOf (length old) (over at bits (bitsOf old)) (over-length at bits (bitsOf old) (omega (arith, length-bitsOf old)) ∙ length-bitsOf old)
+    bitsOf-asBytes (length old) (over at bits (bitsOf old)) (over-length at bits (bitsOf old) (omega (arith, length-bitsOf old)) ∙ length-bitsOf old)
 
 -- one piece after another is both as one
 pub packed-packed : (at : ℕ) (p q : List Bool) (old : List ℕ) → at + length p ≤ length old * 8
     → packedOver (at + length p) q (packedOver at p old) ≡ packedOver at (p ++ q) old
 unfolding packedOver
 packed-packed at p q old h =
-    ap₂ bytesOf (length-packed at p old) (ap (over (at + length p) q) (packed-bits at p old h) ∙ over-over at p q (bitsOf old) (omega (arith, length-bitsOf old)))
+    ap₂ asBytes (length-packedOver at p old) (ap (over (at + length p) q) (packed-bits at p old h) ∙ over-over at p q (bitsOf old) (omega (arith, length-bitsOf old)))
 
 -- ---- by whole bytes
 bitsOf-over : (j : ℕ) (p old : List ℕ) → bitsOf (over j p old) ≡ over (j * 8) (bitsOf p) (bitsOf old)
@@ -62,13 +62,13 @@ bitsOf-over j p old =
     (sym (drop-bitsOf (j + length p) old) ∙ ap (λ (k : ℕ). drop k (bitsOf old)) place)
 
 pub packed-bytes : (j m : ℕ) (bits : List Bool) (old : List ℕ) → allBytes old ≡ true → m * 8 ≤ length bits → j + m ≤ length old
-    → packedOver (j * 8) (take (m * 8) bits) old ≡ over j (bytesOf m bits) old
+    → packedOver (j * 8) (take (m * 8) bits) old ≡ over j (asBytes m bits) old
 packed-bytes j m bits old bytes long h =
-    let back = ap bitsOf (sym (bytesOf-take m bits)) ∙ bitsOf-bytesOf m (take (m * 8) bits) (length-take-le (m * 8) bits long) in
+    let back = ap bitsOf (sym (asBytes-take m bits)) ∙ bitsOf-asBytes m (take (m * 8) bits) (length-take-le (m * 8) bits long) in
     sym
-    (packed-is (j * 8) (take (m * 8) bits) old (over j (bytesOf m bits) old) (over-every _ j (bytesOf m bits) old (bytesOf-small m bits) bytes)
-    (over-length j (bytesOf m bits) old (simp length-bytesOf h))
-    (bitsOf-over j (bytesOf m bits) old ∙ ap (λ (l : List Bool). over (j * 8) l (bitsOf old)) back))
+    (packed-is (j * 8) (take (m * 8) bits) old (over j (asBytes m bits) old) (over-every _ j (asBytes m bits) old (asBytes-small m bits) bytes)
+    (over-length j (asBytes m bits) old (simp length-asBytes h))
+    (bitsOf-over j (asBytes m bits) old ∙ ap (λ (l : List Bool). over (j * 8) l (bitsOf old)) back))
 
 -- ---- within one byte
 -- the bytes with one of them exchanged for one that has the bits laid over its own

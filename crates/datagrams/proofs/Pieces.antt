@@ -10,7 +10,7 @@ use lib.Seq.{take-take, length-take-le}
 use Rattle.lists.specs.Over.{over}
 use Rattle.lists.proofs.Parts.{drop-take, map-take, map-drop, part-rest}
 use Rattle.bits.specs.Bits.{isOne}
-use Rattle.bits.specs.Datagram.{allBytes, bytesOf}
+use Rattle.bits.specs.Datagram.{allBytes, asBytes}
 use Rattle.datagrams.specs.working.Packed.{packedOver}
 use Rattle.datagrams.proofs.Packed.{packed-bytes, packed-packed}
 
@@ -23,7 +23,7 @@ two-parts at i bits old h room =
 
 -- whole bytes, and then the rest
 pub bytes-and-rest : (j : ℕ) (row old mid new : List ℕ) → allBytes old ≡ true → j * 8 + length row ≤ length old * 8
-    → mid ≡ over j (bytesOf (length row / 8) (map isOne row)) old
+    → mid ≡ over j (asBytes (length row / 8) (map isOne row)) old
     → new ≡ packedOver ((j + length row / 8) * 8 + 0) (map isOne (take (length row - length row / 8 * 8) (drop (length row / 8 * 8) row))) mid
     → new ≡ packedOver (j * 8) (map isOne row) old
 bytes-and-rest j row old mid new bytes room e f =

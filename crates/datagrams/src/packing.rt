@@ -7,19 +7,19 @@ ghost use Prim.Native.Nat.{_+_, _*_, _/_, _≤_};
 ghost use lib.ListN.{length, take};
 ghost use Rattle.lists.specs.Over.{over};
 ghost use Rattle.bits.specs.Bits.{isOne};
-ghost use Rattle.bits.specs.Datagram.{bytesOf};
+ghost use Rattle.bits.specs.Datagram.{asBytes};
 ghost use Rattle.datagrams.specs.working.Packed.{packedOver};
 ghost use Rattle.bits.specs.Row.{highFirst};
 
 // A byte with bits laid over its own from one of them on: what is before them, they, and what is behind them.
-fn byte_over(held: u8, from: usize, bits: &[u8]) -> u8
+fn byte_over(old: u8, from: usize, bits: &[u8]) -> u8
     requires { ⌜ from + length (now bits) ≤ 8 ⌝ }
-    ensures { λ r. ⌜ highFirst 8 r ≡ over from (map isOne (now (bits .entry))) (highFirst 8 held) ⌝ }
+    ensures { λ r. ⌜ highFirst 8 r ≡ over from (map isOne (now (bits .entry))) (highFirst 8 old) ⌝ }
 {
     let behind = 8 - (from + bits.len());
-    let before = (held as u32) >> (8 - from);
+    let before = (old as u32) >> (8 - from);
     let front = (before << bits.len()) + number_of(bits);
-    ((front << behind) + (held as u32) % (1 << behind)) as u8
+    ((front << behind) + (old as u32) % (1 << behind)) as u8
 }
 
 // Lays bits over those of byte j of a datagram, from one of them on.
@@ -35,7 +35,7 @@ fn pack_part(bits: &[u8], j: usize, from: usize, out: &mut [u8])
 // Lays the whole bytes that a row begins with over a datagram from byte j on.
 fn pack_bytes(row: &[u8], j: usize, out: &mut [u8])
     requires { ⌜ j + length (now row) / 8 ≤ length (now out) ⌝ }
-    ensures { λ _. ⌜ now (out .exit) ≡ over j (bytesOf (length (now (row .entry)) / 8) (map isOne (now (row .entry)))) (now (out .entry)) ⌝ }
+    ensures { λ _. ⌜ now (out .exit) ≡ over j (asBytes (length (now (row .entry)) / 8) (map isOne (now (row .entry)))) (now (out .entry)) ⌝ }
 {
     for i in 0..row.len() / 8 {
         out[j + i] = byte_at(row, i);

@@ -12,38 +12,39 @@ use Rattle.bits.specs.Xor.{_⊕_}
 use Rattle.bits.proofs.Differences.{differences-zero}
 use Rattle.bits.proofs.Flip.{length-flip, flip-flip, nearer, OneOff, same, flipped, one-off}
 use Rattle.bits.proofs.Xor.{⊕-self, ⊕-equal}
-use Rattle.check32.specs.Check.{loaded, register, Closes}
-use Rattle.check32.specs.working.Marks.{residue}
+use Rattle.check32.specs.Check.{loaded, register}
+use Rattle.check32.specs.working.Closes.{Closes}
+use Rattle.check32.specs.working.Marks.{mark}
 use Rattle.check32.proofs.Linear.{registerFrom-flip}
-use Rattle.check32.proofs.Residue.{residue-not-zero, bitsAfter-found, bitsAfter-first}
+use Rattle.check32.proofs.Marks.{mark-not-zero, bitsAfter-found, bitsAfter-first}
 use Rattle.distance.specs.working.Coding.{longest}
 use Rattle.distance.specs.working.Candidate.{wrongAfter, wrongPlace}
-use Rattle.distance.proofs.Residues.{residues-differ}
+use Rattle.distance.proofs.Marks.{marks-differ}
 
--- a flip closes where the residue of its place is the register
-flip-closes : (row : List Bool) (i : ℕ) → i < length row → Closes (flip i row) ↔ (residue (length row - suc i) ≡ register row)
+-- a flip closes where the mark of its place is the register
+flip-closes : (row : List Bool) (i : ℕ) → i < length row → Closes (flip i row) ↔ (mark (length row - suc i) ≡ register row)
 flip-closes row i h = (
-  λ c. sym (⊕-equal (register row) (residue (length row - suc i)) (sym (registerFrom-flip loaded i row h) ∙ c)),
+  λ c. sym (⊕-equal (register row) (mark (length row - suc i)) (sym (registerFrom-flip loaded i row h) ∙ c)),
   λ e. registerFrom-flip loaded i row h ∙ ap (λ (r : ℕ). register row ⊕ r) e ∙ ⊕-self (register row),
 )
 
 -- no flip of a row that closes does
 pub closes-alone : (row : List Bool) (i : ℕ) → i < length row → Closes row → Closes (flip i row) → ⊥
-closes-alone row i h c d = residue-not-zero (length row - suc i) (flip-closes row i h .0 d ∙ c)
+closes-alone row i h c d = mark-not-zero (length row - suc i) (flip-closes row i h .0 d ∙ c)
 
 -- the flip that closes is the one that the register tells of
 pub flip-told : (row : List Bool) (i : ℕ) → length row ≤ longest → i < length row → Closes (flip i row) → (wrongAfter row < length row) × (i ≡ wrongPlace row)
 flip-told row i l h c =
     let after = length row - suc i in
-    let e : residue after ≡ register row = flip-closes row i h .0 c in
+    let e : mark after ≡ register row = flip-closes row i h .0 c in
     let first : wrongAfter row ≤ after = bitsAfter-first (register row) (length row) after (omega arith) e in
-    let equal : wrongAfter row ≡ after = residues-differ (wrongAfter row) after (omega arith) (omega arith) (bitsAfter-found (register row) (length row) (omega arith) ∙ sym e) in
+    let equal : wrongAfter row ≡ after = marks-differ (wrongAfter row) after (omega arith) (omega arith) (bitsAfter-found (register row) (length row) (omega arith) ∙ sym e) in
     (omega arith, omega arith)
 
 pub told-closes : (row : List Bool) → wrongAfter row < length row → Closes (flip (wrongPlace row) row)
 told-closes row h =
     let back : length row - suc (wrongPlace row) ≡ wrongAfter row = omega arith in
-    flip-closes row (wrongPlace row) (omega arith) .1 (ap residue back ∙ bitsAfter-found (register row) (length row) h)
+    flip-closes row (wrongPlace row) (omega arith) .1 (ap mark back ∙ bitsAfter-found (register row) (length row) h)
 
 -- at most one flip of a row closes
 one-flip : (row : List Bool) (i j : ℕ) → length row ≤ longest → i < length row → j < length row → Closes (flip i row) → Closes (flip j row) → i ≡ j

@@ -2,9 +2,9 @@
 -- Assumes nothing.
 use mathlib.Core.Path.{_≡_, refl, sym, ap, _∙_}
 use mathlib.Core.Logic.{⊎-elim}
-use mathlib.Core.Bool.{Bool, true, cond}
+use mathlib.Core.Bool.{Bool, cond}
 use mathlib.Core.List.{List}
-use mathlib.Core.Option.{Option, none, some, Option·none-ne-some}
+use mathlib.Core.Option.{none, some, Option·none-ne-some}
 use Prim.Native.Nat.{ℕ, _<_, _≤_}
 use lib.Dec.{eqb, ltb}
 use lib.ListN.{length}
@@ -12,7 +12,8 @@ use borrow.Author.Tests.{eqb-true, ltb-true, eq-eqb, ne-eqb, lt-ltb, le-ltb}
 use Rattle.lists.proofs.Tests.{either}
 use Rattle.bits.specs.Row.{differences, flip}
 use Rattle.bits.proofs.Flip.{length-flip, OneOff, same, flipped, one-off}
-use Rattle.check32.specs.Check.{register, Closes}
+use Rattle.check32.specs.Check.{register}
+use Rattle.check32.specs.working.Closes.{Closes}
 use Rattle.distance.specs.working.Coding.{longest}
 use Rattle.distance.specs.working.Candidate.{wrongAfter, wrongPlace, candidate}
 use Rattle.distance.proofs.Apart.{closes-alone, flip-told, told-closes}

@@ -1,5 +1,5 @@
 pub mod Apart
 pub mod Candidate
 pub mod Exact
-pub mod Residues
+pub mod Marks
 pub mod Weave

@@ -19,12 +19,12 @@ use Rattle.links.specs.working.Good.{goodRow, longestBlock}
 use Rattle.links.proofs.Facts.{sizes, block-is}
 use Rattle.turbo.specs.Interleaver.{position, interleavedFrom, interleaved}
 use Rattle.turbo.proofs.Interleaved.{length-from}
-use Rattle.turbo.proofs.Permutation.{tFrom, digitsPlace, position-clock-from, position-in-range}
+use Rattle.turbo.proofs.Permutation.{tFrom, digitsPosition, position-clock-from, position-in-range}
 
 -- ---- π at the digits m, i, j, as the code computes it from t and its prime
-pub place-code : (row : Row) (m i j : ℕ)
-    → 2 * (tFrom row i + (getD (row .primes) (tFrom row i % 8 + 1 - 1) 0 * j + 21 * m) % row .k2 * (row .k1 / 2) + 1) - m ≡ digitsPlace row m i j
-place-code row m i j = let q : tFrom row i % 8 + 1 - 1 ≡ tFrom row i % 8 = omega arith in rw q
+pub position-code : (row : Row) (m i j : ℕ)
+    → 2 * (tFrom row i + (getD (row .primes) (tFrom row i % 8 + 1 - 1) 0 * j + 21 * m) % row .k2 * (row .k1 / 2) + 1) - m ≡ digitsPosition row m i j
+position-code row m i j = let q : tFrom row i % 8 + 1 - 1 ≡ tFrom row i % 8 = omega arith in rw q
 
 -- the pairs of a good row are few
 pub pair-small : (row : Row) → T (goodRow row) → (i j : ℕ) → i < row .k1 / 2 → j < row .k2 → i * row .k2 + j < longestBlock
@@ -47,9 +47,9 @@ module _ (row : Row) (u : List ℕ) where
   abbrev pub pairsFrom : ℕ → ℕ → List ℕ
   pairsFrom i j = inputs (2 * (i * row .k2 + j)) (2 * (row .k2 - j))
 
-  -- what the code reads: the bit at a place that counts from 1
+  -- what the code reads: the bit at a position that counts from 1
   abbrev pub bitAt : ℕ → ℕ
-  bitAt place = getD u (place - 1) 0
+  bitAt position = getD u (position - 1) 0
 
   pub pairs-all : (i : ℕ) → pairsFrom i 0 ≡ inputs (2 * (i * row .k2)) (2 * row .k2)
   pairs-all i = let from : 2 * (i * row .k2 + 0) ≡ 2 * (i * row .k2) = omega arith in rw (from, sub-zero)
@@ -59,18 +59,18 @@ module _ (row : Row) (u : List ℕ) where
   pairs-done i j h = let none : 2 * (row .k2 - j) ≡ 0 = omega arith in rw none
 
   module _ (good : T (goodRow row)) (long : length u ≡ row .k) (bits : allBits u ≡ true) where
-    pub place-inside : (m i j : ℕ) → m < 2 → j < row .k2 → (1 ≤ digitsPlace row m i j) × (digitsPlace row m i j ≤ length u)
-    place-inside m i j hm hj =
+    pub position-inside : (m i j : ℕ) → m < 2 → j < row .k2 → (1 ≤ digitsPosition row m i j) × (digitsPosition row m i j ≤ length u)
+    position-inside m i j hm hj =
         let at = position-in-range row good (2 * (i * row .k2 + j) + m + 1) in
         let e = position-clock-from row good m i j hm hj in
         (omega (arith, at, e), omega (arith, at, e, long))
 
     -- the input at the clock of the digits m, i, j
-    input-at : (m i j : ℕ) → m < 2 → j < row .k2 → byte (getD (map isOne u) (position row (2 * (i * row .k2 + j) + m + 1) - 1) false) ≡ bitAt (digitsPlace row m i j)
+    input-at : (m i j : ℕ) → m < 2 → j < row .k2 → byte (getD (map isOne u) (position row (2 * (i * row .k2 + j) + m + 1) - 1) false) ≡ bitAt (digitsPosition row m i j)
     input-at m i j hm hj =
-        ap (λ (r : ℕ). byte (getD (map isOne u) (r - 1) false)) (position-clock-from row good m i j hm hj) ∙ byte-at u bits (digitsPlace row m i j - 1)
+        ap (λ (r : ℕ). byte (getD (map isOne u) (r - 1) false)) (position-clock-from row good m i j hm hj) ∙ byte-at u bits (digitsPosition row m i j - 1)
 
-    pub pairs-more : (i j : ℕ) → j < row .k2 → pairsFrom i j ≡ bitAt (digitsPlace row 0 i j) ∷ bitAt (digitsPlace row 1 i j) ∷ pairsFrom i (j + 1)
+    pub pairs-more : (i j : ℕ) → j < row .k2 → pairsFrom i j ≡ bitAt (digitsPosition row 0 i j) ∷ bitAt (digitsPosition row 1 i j) ∷ pairsFrom i (j + 1)
     unfolding interleavedFrom
     pairs-more i j h =
         let x = i * row .k2 + j in
@@ -89,14 +89,14 @@ module _ (row : Row) (u : List ℕ) where
 
     -- the pair j is stored
     pub pairs-next : (i j : ℕ) → j < row .k2 → {old v : List ℕ} → Pairs i old v j
-        → Pairs i old (set (set v (2 * (i * row .k2 + j)) (bitAt (digitsPlace row 0 i j))) (2 * (i * row .k2 + j) + 1) (bitAt (digitsPlace row 1 i j))) (j + 1)
+        → Pairs i old (set (set v (2 * (i * row .k2 + j)) (bitAt (digitsPosition row 0 i j))) (2 * (i * row .k2 + j) + 1) (bitAt (digitsPosition row 1 i j))) (j + 1)
     pairs-next i j h w =
         let next : 2 * (i * row .k2 + j) + 1 + 1 ≡ 2 * (i * row .k2 + (j + 1)) = omega arith in
-        rw next at (more _ (pairsFrom i (j + 1)) (more _ (bitAt (digitsPlace row 1 i j) ∷ pairsFrom i (j + 1)) w (pairs-more i j h)) refl)
+        rw next at (more _ (pairsFrom i (j + 1)) (more _ (bitAt (digitsPosition row 1 i j) ∷ pairsFrom i (j + 1)) w (pairs-more i j h)) refl)
 
     pub pairs-room : (i j : ℕ) → j < row .k2 → {old v : List ℕ} → Pairs i old v j → 2 * (i * row .k2 + j) + 1 < length v
     pairs-room i j h w =
-        let room = fits-piece (bitAt (digitsPlace row 0 i j) ∷ bitAt (digitsPlace row 1 i j) ∷ []) (pairsFrom i (j + 1)) w (pairs-more i j h) in
+        let room = fits-piece (bitAt (digitsPosition row 0 i j) ∷ bitAt (digitsPosition row 1 i j) ∷ []) (pairsFrom i (j + 1)) w (pairs-more i j h) in
         omega (arith, room)
 
 -- at the start all pairs are left

@@ -12,7 +12,7 @@ ghost use Rattle.lists.specs.Over.{over};
 ghost use Rattle.turbo.specs.Interleaver.{interleavedFrom, interleaved};
 
 // π(s), where t and the prime p of its q are known: j is the pair of s in its row, and m tells the two of a pair apart.
-fn place(row: Row, t: usize, p: usize, j: usize, m: usize) -> usize
+fn position(row: Row, t: usize, p: usize, j: usize, m: usize) -> usize
     requires { ⌜ T (goodRow row) × (t < row .k1 / 2) × (p < 2 ^ 32) × (j < row .k2) × (m < 2) ⌝ }
     ensures { λ r. ⌜ r ≡ 2 * (t + (p * j + 21 * m) % row .k2 * (row .k1 / 2) + 1) - m ⌝ }
 {
@@ -33,8 +33,8 @@ fn lay_row(row: Row, i: usize, u: &[u8], v: &mut [u8])
     let p = primes[q - 1] as usize;
     for j in 0..k2 {
         let s = 2 * (i * k2 + j);
-        v[s] = u[place(row, t, p, j, 0) - 1];
-        v[s + 1] = u[place(row, t, p, j, 1) - 1];
+        v[s] = u[position(row, t, p, j, 0) - 1];
+        v[s + 1] = u[position(row, t, p, j, 1) - 1];
     }
 }
 

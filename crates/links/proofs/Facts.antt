@@ -9,7 +9,7 @@ use lib.ListN.{length, getD, take, length-take}
 use lib.Seq.{getD-take}
 use Rattle.lists.proofs.Every.{every-at, together-at}
 use Rattle.links.specs.declared.Row.{Row}
-use Rattle.links.specs.Sizes.{bytesHeld, bitsOver, imageLength}
+use Rattle.links.specs.Sizes.{bytesHeld, imageLength}
 use Rattle.links.specs.working.Good.{longestBlock, longestImage, inverse, hasInverse, goodSizes, goodPrimes, goodRow}
 
 pub record Sizes (row : Row) : Type 0 where
@@ -20,10 +20,9 @@ pub record Sizes (row : Row) : Type 0 where
   pub check : 32 ≤ row .k
   pub block : row .k ≤ longestBlock
   pub image : imageLength row ≤ longestImage
-  -- the bytes, the bits over and the check make the block
   pub bytes : bytesHeld row ≤ 698
-  pub over : bitsOver row < 8
-  pub whole : bytesHeld row * 8 + bitsOver row + 32 ≡ row .k
+  -- the bytes and the check have room in the block
+  pub whole : bytesHeld row * 8 + 32 ≤ row .k
 
 pub sizes : (row : Row) → T (goodRow row) → Sizes row
 unfolding goodRow goodSizes
@@ -42,7 +41,6 @@ sizes row t =
       block = block;
       image = leb→le (imageLength row) longestImage (at 6);
       bytes = omega arith;
-      over = omega arith;
       whole = omega arith;
     }
 

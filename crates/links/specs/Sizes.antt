@@ -1,6 +1,6 @@
--- The numbers of a link (document 01, "From datagram to block"): the bytes it holds, its bits over, and N, the bits of its image.
+-- The numbers of a link (document 01, "From datagram to block"): the bytes it holds, and N, the bits of its image.
 use mathlib.Core.List.{List, [], _∷_}
-use Prim.Native.Nat.{ℕ, zero, suc, _+_, _-_, _*_, _/_}
+use Prim.Native.Nat.{ℕ, zero, suc, _+_, _-_, _/_}
 use Rattle.links.specs.declared.Row.{Row}
 use Rattle.links.specs.Patterns.{patternOf, tailOf, flagsAt, total}
 
@@ -12,12 +12,9 @@ burstBits row = row .k
 abbrev pub openBits : Row → ℕ
 openBits row = burstBits row - 32
 
--- the whole bytes that these have room for, and the bits over
+-- the whole bytes that these have room for
 abbrev pub bytesHeld : Row → ℕ
 bytesHeld row = openBits row / 8
-
-abbrev pub bitsOver : Row → ℕ
-bitsOver row = openBits row - bytesHeld row * 8
 
 -- how many bits pass on n clocks from clock s on
 unfoldable pub passedOn : List (List ℕ) → ℕ → ℕ → ℕ

@@ -10,7 +10,8 @@ use native.Mathlib.Numerals.{add-one}
 use lib.Dec.{T}
 use lib.ListN.{length, getD, take, drop, replicate, drop-of-length-le}
 use lib.Seq.{drop-cons}
-use Rattle.lists.specs.Every.{every, together}
+use Rattle.lists.specs.Every.{every}
+use Rattle.lists.specs.working.Together.{together}
 use Rattle.lists.proofs.Tests.{both-left, both-right, both-true}
 
 module _ {A : Type 0} (test : A → Bool) (none : A) where

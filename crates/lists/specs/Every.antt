@@ -1,4 +1,4 @@
--- A test of every element of a list, whatever its elements are, and several tests together.
+-- A test of every element of a list, whatever its elements are.
 use mathlib.Core.Bool.{Bool, true, _&&_}
 use mathlib.Core.List.{List, [], _∷_}
 
@@ -7,10 +7,3 @@ module _ {A : Type 0} where
   unfoldable pub every : (A → Bool) → List A → Bool
   every test [] = true
   every test (x ∷ xs) = test x && every test xs
-
-abbrev same : Bool → Bool
-same b = b
-
--- all of some tests hold
-abbrev pub together : List Bool → Bool
-together tests = every same tests

@@ -14,7 +14,7 @@ pub struct Step {
     pub length: u64,
 }
 
-fn refused(number: u32) -> Step
+fn refuse(number: u32) -> Step
     ensures { λ r. ⌜ r ≡ refused number ⌝ }
 {
     Step {
@@ -69,7 +69,7 @@ fn fill_at(left: &[u8]) -> Step
     if only_fill(left) {
         return finished();
     }
-    refused(10)
+    refuse(10)
 }
 
 // The total length that a message declares.
@@ -94,14 +94,14 @@ fn message_at(offset: usize, left: &[u8]) -> Step
     ensures { λ r. ⌜ r ≡ messageAt offset (now (left .entry)) ⌝ }
 {
     if left.len() < 3 {
-        return refused(9);
+        return refuse(9);
     }
     let total = declared_length(left);
     if total < 7 {
-        return refused(9);
+        return refuse(9);
     }
     if past_end(total, left) {
-        return refused(9);
+        return refuse(9);
     }
     message(offset, total)
 }
@@ -124,7 +124,7 @@ pub fn step_message(datagram: &[u8], position: usize) -> Step
     ensures { λ r. ⌜ r ≡ stepMessage (now (datagram .entry)) position ⌝ }
 {
     if position > datagram.len() {
-        return refused(8);
+        return refuse(8);
     }
     step_at(position, &datagram[position..])
 }

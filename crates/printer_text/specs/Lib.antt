@@ -1,3 +1,3 @@
-pub mod Bytes
+pub mod Codes
 pub mod Line
 pub mod Lines

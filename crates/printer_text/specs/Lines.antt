@@ -8,7 +8,7 @@ use lib.ListN.{length, replicate}
 use Rattle.words.specs.declared.Word.{Word}
 use Rattle.words.specs.Calls.{readWord}
 use Rattle.printer_text.specs.declared.Text.{Text}
-use Rattle.printer_text.specs.Bytes.{bytesOf}
+use Rattle.printer_text.specs.Codes.{codes}
 use Rattle.printer_text.specs.Line.{lineOf, bitOf}
 
 -- a number below 100 in decimal
@@ -16,7 +16,7 @@ abbrev pub decimal : ℕ → List ℕ
 decimal n = cond (ltb n 10) ((48 + n) ∷ []) ((48 + n / 10) ∷ (48 + n % 10) ∷ [])
 
 abbrev pub lineWith : String → List ℕ → List ℕ
-lineWith name value = bytesOf name ++ value ++ bytesOf "\n"
+lineWith name value = codes name ++ value ++ codes "\n"
 
 -- status, link and wrong, in this order; on a refusal link and wrong are `none`
 abbrev pub linesOf : Word → List ℕ
@@ -24,7 +24,7 @@ linesOf word =
     lineWith "status=" (decimal (word .status))
     ++ cond (eqb (word .status) 0)
     (lineWith "link=" (decimal (word .number)) ++ lineWith "wrong=" (decimal (word .wrong)))
-    (lineWith "link=" (bytesOf "none") ++ lineWith "wrong=" (bytesOf "none"))
+    (lineWith "link=" (codes "none") ++ lineWith "wrong=" (codes "none"))
 
 -- the printed bytes in an array of 32, with zeros behind them
 abbrev pub padded : List ℕ → Text

@@ -12,6 +12,7 @@ ghost use Rattle.links.specs.Patterns.{total};
 ghost use Rattle.links.specs.Sizes.{imageLength};
 ghost use Rattle.turbo.specs.working.Parity.{countsOf};
 ghost use Rattle.blocks.specs.Reading.{received};
+ghost use Rattle.blocks.specs.working.Came.{Came};
 
 // Copies bytes.
 fn copy(from: &[u8], to: &mut [u8])
@@ -67,7 +68,7 @@ fn take_x(row: Row, coded: &[u8], u: &mut [u8])
 
 // The k bits of what came; plain is scratch for all of it unscrambled.
 pub fn receive(row: Row, came: &[u8], plain: &mut [u8], u: &mut [u8])
-    requires { ⌜ T (goodRow row) × (length (now u) ≡ row .k) × (length (now came) ≡ imageLength row) × (allBits (now came) ≡ true) × (length (now plain) ≡ imageLength row) ⌝ }
+    requires { ⌜ Came row (now came) × (length (now u) ≡ row .k) × (length (now plain) ≡ imageLength row) ⌝ }
     ensures { λ _. ⌜ now (u .exit) ≡ map byte (received row (map isOne (now (came .entry)))) ⌝ }
 {
     copy(came, plain);

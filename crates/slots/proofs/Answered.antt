@@ -24,7 +24,8 @@ use Rattle.words.proofs.Exact.{near-found}
 use Rattle.slots.specs.Burst.{training, trainingLength, headLength, headPart, trainingPart, wordPart, blockPart}
 use Rattle.slots.specs.Near.{NearHead, Near}
 use Rattle.slots.specs.Head.{foundHead, trainingWrong, readHead}
-use Rattle.slots.specs.Calls.{both, joined, reading, readSlot}
+use Rattle.slots.specs.Calls.{both, joined, readSlot}
+use Rattle.slots.specs.working.Reading.{reading}
 use Rattle.slots.proofs.Calls.{word-slot, head-word, read-joined}
 use Rattle.slots.proofs.Links.{slot-offered}
 use Rattle.slots.proofs.Parts.{part-of-bytes, rest-of-bytes}

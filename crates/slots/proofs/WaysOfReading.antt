@@ -28,7 +28,8 @@ use Rattle.words.proofs.Ways as w
 use Rattle.slots.specs.Burst.{training, trainingLength, headLength, headPart, trainingPart, wordPart, blockPart, isSlotLink}
 use Rattle.slots.specs.Near.{Near}
 use Rattle.slots.specs.Head.{refusedHead, foundHead, trainingWrong, namedHead, readHead}
-use Rattle.slots.specs.Calls.{refused, reading, both, joined, readSlot}
+use Rattle.slots.specs.Calls.{refused, both, joined, readSlot}
+use Rattle.slots.specs.working.Reading.{reading}
 use Rattle.slots.proofs.Calls.{word-refused, word-no-slot, word-slot, head-short, head-no-bit, head-no-training, head-word, read-refused, read-joined}
 use Rattle.slots.proofs.Links.{slot-offered}
 use Rattle.slots.proofs.Parts.{part-back, rest-back, word-long, word-bits}

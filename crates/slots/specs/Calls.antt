@@ -3,7 +3,6 @@ use mathlib.Core.Bool.{cond}
 use mathlib.Core.List.{List, [], map}
 use Prim.Native.Nat.{ℕ}
 use lib.Dec.{eqb}
-use lib.ListN.{length}
 use Rattle.answers.specs.declared.Written.{Written}
 use Rattle.answers.specs.Numbers.{done}
 use Rattle.answers.specs.Outcome.{Outcome}
@@ -35,13 +34,6 @@ writeSlot link datagram room = writeTask (slotTask link datagram) room
 -- a reader that refuses: the number, and 0 for all else
 abbrev pub refused : ℕ → Outcome Slot
 refused number = record { answer = record { status = number; count = 0; wrong = 0; link = 0; «word_wrong» = 0 }; bytes = [] }
-
--- a reader that answers a datagram, with the count of wrong places, the link and the count of wrong places of its word
-abbrev pub reading : List ℕ → ℕ → ℕ → ℕ → Outcome Slot
-reading datagram wrong link wordWrong = record {
-  answer = record { status = done; count = length datagram; wrong = wrong; link = link; «word_wrong» = wordWrong };
-  bytes = datagram;
-}
 
 -- what was read of the rest as a block, with what was read of the head
 unfoldable pub both : Head → Block → Slot

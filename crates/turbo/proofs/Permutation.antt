@@ -1,4 +1,4 @@
--- π is a permutation of the places 1 to k on every good row.
+-- π is a permutation of the positions 1 to k on every good row.
 -- Assumes nothing.
 use mathlib.Core.Path.{_≡_, sym, ap, ap₂, subst, _∙_}
 use Prim.Native.Nat.{ℕ, _+_, _-_, _*_, _/_, _%_, _<_}
@@ -24,19 +24,19 @@ module _ (row : Row) where
   abbrev pub cFrom : ℕ → ℕ → ℕ → ℕ
   cFrom m t j = affine (row .k2) (prime row (t % 8)) (21 * m) j
 
-  abbrev pub placeOf : ℕ → ℕ → ℕ → ℕ
-  placeOf m t c = 2 * (t + c * half + 1) - m
+  abbrev pub positionOf : ℕ → ℕ → ℕ → ℕ
+  positionOf m t c = 2 * (t + c * half + 1) - m
 
-  abbrev pub digitsPlace : ℕ → ℕ → ℕ → ℕ
-  digitsPlace m i j = placeOf m (tFrom i) (cFrom m (tFrom i) j)
+  abbrev pub digitsPosition : ℕ → ℕ → ℕ → ℕ
+  digitsPosition m i j = positionOf m (tFrom i) (cFrom m (tFrom i) j)
 
-  position-is : (s : ℕ) → position row s ≡ digitsPlace ((s - 1) % 2) ((s - 1) / 2 / row .k2) ((s - 1) / 2 % row .k2)
+  position-is : (s : ℕ) → position row s ≡ digitsPosition ((s - 1) % 2) ((s - 1) / 2 / row .k2) ((s - 1) / 2 % row .k2)
   position-is s =
       let m = (s - 1) % 2 in
       let x = (s - 1) / 2 in
       position-steps row s
-      ∙ ap (λ (i : ℕ). digitsPlace m i (x - i * row .k2)) (sym (div-div-eq-div-mul (s - 1) 2 (row .k2)))
-      ∙ ap (digitsPlace m (x / row .k2)) (sym (mod-eq-sub-div-mul x (row .k2)))
+      ∙ ap (λ (i : ℕ). digitsPosition m i (x - i * row .k2)) (sym (div-div-eq-div-mul (s - 1) 2 (row .k2)))
+      ∙ ap (digitsPosition m (x / row .k2)) (sym (mod-eq-sub-div-mul x (row .k2)))
 
   -- the s with π(s) = r, from the digits m, t, c of r
   abbrev pub clockFrom : ℕ → ℕ → ℕ → ℕ
@@ -57,12 +57,12 @@ clockOf row r =
     let v = (r + r % 2) / 2 - 1 in
     digitsClock row (r % 2) (v % (row .k1 / 2)) (v / (row .k1 / 2))
 
--- the last digit and the rest of a place
-place-last : (x m : ℕ) → m < 2 → (2 * (x + 1) - m) % 2 ≡ m
-place-last x m h = omega arith
+-- the last digit and the rest of a position
+position-last : (x m : ℕ) → m < 2 → (2 * (x + 1) - m) % 2 ≡ m
+position-last x m h = omega arith
 
-place-rest : (x m : ℕ) → m < 2 → (2 * (x + 1) - m + m) / 2 - 1 ≡ x
-place-rest x m h = omega arith
+position-rest : (x m : ℕ) → m < 2 → (2 * (x + 1) - m + m) / 2 - 1 ≡ x
+position-rest x m h = omega arith
 
 module _ (row : Row) (good : T (goodRow row)) where
   some-half : 0 < half row
@@ -71,16 +71,16 @@ module _ (row : Row) (good : T (goodRow row)) where
   some-width : 0 < row .k2
   some-width = sizes row good .width
 
-  place-in : (m t c : ℕ) → m < 2 → t < half row → c < row .k2 → InBlock row (placeOf row m t c)
-  place-in m t c hm ht hc =
+  position-in : (m t c : ℕ) → m < 2 → t < half row → c < row .k2 → InBlock row (positionOf row m t c)
+  position-in m t c hm ht hc =
       let below : c * half row + t < row .k2 * half row = digits-lt hc ht in
       omega (arith, block-is row good)
 
-  -- π(s) is a place of the block, whatever s is
+  -- π(s) is a position of the block, whatever s is
   pub position-in-range : (s : ℕ) → InBlock row (position row s)
   position-in-range s =
       subst (InBlock row) (sym (position-is row s))
-      (place-in ((s - 1) % 2) _ _ (omega arith) (mod-lt _ some-half) (mod-lt _ some-width))
+      (position-in ((s - 1) % 2) _ _ (omega arith) (mod-lt _ some-half) (mod-lt _ some-width))
 
   clock-in : (m i j : ℕ) → m < 2 → i < half row → j < row .k2 → InBlock row (clockFrom row m i j)
   clock-in m i j hm hi hj =
@@ -107,20 +107,20 @@ module _ (row : Row) (good : T (goodRow row)) where
   c-back : (m t c : ℕ) → t < half row → c < row .k2 → cFrom row m t (jFrom row m t c) ≡ c
   c-back m t c ht h = affine-back (row .k2) (prime row (t % 8)) (inverse (prime row (t % 8)) (row .k2)) (21 * m) some-width (prime-inverse t ht) c h
 
-  -- ---- from a clock to its place and back
-  clock-place : (m t c : ℕ) → m < 2 → t < half row → clockOf row (placeOf row m t c) ≡ digitsClock row m t c
+  -- ---- from a clock to its position and back
+  clock-of : (m t c : ℕ) → m < 2 → t < half row → clockOf row (positionOf row m t c) ≡ digitsClock row m t c
   unfolding clockOf
-  clock-place m t c hm ht =
+  clock-of m t c hm ht =
       let x = t + c * half row in
-      ap₂ (λ (m v : ℕ). digitsClock row m (v % half row) (v / half row)) (place-last x m hm)
-      (ap (λ (m' : ℕ). (placeOf row m t c + m') / 2 - 1) (place-last x m hm) ∙ place-rest x m hm ∙ add-comm t (c * half row))
+      ap₂ (λ (m v : ℕ). digitsClock row m (v % half row) (v / half row)) (position-last x m hm)
+      (ap (λ (m' : ℕ). (positionOf row m t c + m') / 2 - 1) (position-last x m hm) ∙ position-rest x m hm ∙ add-comm t (c * half row))
       ∙ ap₂ (digitsClock row m) (digits-mod c ht) (digits-div c ht)
 
-  clock-digits : (m i j : ℕ) → m < 2 → i < half row → j < row .k2 → clockOf row (digitsPlace row m i j) ≡ clockFrom row m i j
+  clock-digits : (m i j : ℕ) → m < 2 → i < half row → j < row .k2 → clockOf row (digitsPosition row m i j) ≡ clockFrom row m i j
   clock-digits m i j hm hi hj =
       let t = tFrom row i in
       let ht : t < half row = mod-lt (19 * i + 1) some-half in
-      clock-place m t (cFrom row m t j) hm ht ∙ ap₂ (clockFrom row m) (i-back i hi) (j-back m t j ht hj)
+      clock-of m t (cFrom row m t j) hm ht ∙ ap₂ (clockFrom row m) (i-back i hi) (j-back m t j ht hj)
 
   pub clock-position : (s : ℕ) → InBlock row s → clockOf row (position row s) ≡ s
   clock-position s h =
@@ -130,12 +130,12 @@ module _ (row : Row) (good : T (goodRow row)) where
       ∙ ap (λ (y : ℕ). 2 * y + (s - 1) % 2 + 1) (div-add-mod' x (row .k2))
       ∙ omega arith
 
-  -- ---- from a place to its clock and back
-  pub position-clock-from : (m i j : ℕ) → m < 2 → j < row .k2 → position row (clockFrom row m i j) ≡ digitsPlace row m i j
+  -- ---- from a position to its clock and back
+  pub position-clock-from : (m i j : ℕ) → m < 2 → j < row .k2 → position row (clockFrom row m i j) ≡ digitsPosition row m i j
   position-clock-from m i j hm hj =
       position-is row (clockFrom row m i j)
-      ∙ ap₂ (λ (m x : ℕ). digitsPlace row m (x / row .k2) (x % row .k2)) (last (i * row .k2 + j)) (rest (i * row .k2 + j))
-      ∙ ap₂ (digitsPlace row m) (digits-div i hj) (digits-mod i hj)
+      ∙ ap₂ (λ (m x : ℕ). digitsPosition row m (x / row .k2) (x % row .k2)) (last (i * row .k2 + j)) (rest (i * row .k2 + j))
+      ∙ ap₂ (digitsPosition row m) (digits-div i hj) (digits-mod i hj)
     where
       last : (x : ℕ) → (2 * x + m + 1 - 1) % 2 ≡ m
       last x = omega arith
@@ -143,12 +143,12 @@ module _ (row : Row) (good : T (goodRow row)) where
       rest : (x : ℕ) → (2 * x + m + 1 - 1) / 2 ≡ x
       rest x = omega arith
 
-  position-digits : (m t c : ℕ) → m < 2 → t < half row → c < row .k2 → position row (digitsClock row m t c) ≡ placeOf row m t c
+  position-digits : (m t c : ℕ) → m < 2 → t < half row → c < row .k2 → position row (digitsClock row m t c) ≡ positionOf row m t c
   position-digits m t c hm ht hc =
       let j = jFrom row m t c in
       position-clock-from m (iFrom row t) j hm (mod-lt _ some-width)
-      ∙ ap (λ (t' : ℕ). placeOf row m t' (cFrom row m t' j)) (t-back t ht)
-      ∙ ap (placeOf row m t) (c-back m t c ht hc)
+      ∙ ap (λ (t' : ℕ). positionOf row m t' (cFrom row m t' j)) (t-back t ht)
+      ∙ ap (positionOf row m t) (c-back m t c ht hc)
 
   pub position-clock : (r : ℕ) → InBlock row r → position row (clockOf row r) ≡ r
   unfolding clockOf

@@ -1,4 +1,4 @@
--- The interleaver (M.2092-1, Annex 2, 1.2.4.3): which bit of the block the second encoder takes at each clock. Places count from 1.
+-- The interleaver (M.2092-1, Annex 2, 1.2.4.3): which bit of the block the second encoder takes at each clock. Positions count from 1.
 use mathlib.Core.Bool.{Bool, false}
 use mathlib.Core.List.{List, [], _∷_}
 use Prim.Native.Nat.{ℕ, zero, suc, _+_, _-_, _*_, _/_, _%_, _≤_}
@@ -16,7 +16,7 @@ position row s =
     let c = (getD (row .primes) (q - 1) 0 * j + 21 * m) % row .k2 in
     2 * (t + c * (row .k1 / 2) + 1) - m
 
--- a place of the block, and so a clock
+-- a position in the block, and so a clock
 abbrev pub InBlock : Row → ℕ → Type 0
 InBlock row s = (1 ≤ s) × (s ≤ row .k)
 

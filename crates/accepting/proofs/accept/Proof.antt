@@ -32,16 +32,16 @@ returns : tie.Need-returns
 returns c = refuses (far-refused _ _ _ _ _ (omega (arith, c .before .before .before .before .compare .ensures, c .before .if1 .taken))) (c .refuse .ensures)
 
 bytes-held-requires : tie.Need-bytes-held-requires
-bytes-held-requires c κs = sizes _ (start c .pre .0) .check
+bytes-held-requires c κs = sizes _ (start c .pre .0 .good) .check
 
 mul-pack : tie.Need-mul-pack
-mul-pack c = let at = start (c .before) in record { fits = omega (arith, c .bytes-held .ensures, sizes (at .args .row) (at .pre .0) .bytes) }
+mul-pack c = let at = start (c .before) in record { fits = omega (arith, c .bytes-held .ensures, sizes (at .args .row) (at .pre .0 .good) .bytes) }
 
 pack-requires : tie.Need-pack-requires
 pack-requires c κs =
     let at = start (c .before .before) in
     let held = c .before .bytes-held .ensures in
-    (omega (arith, held, at .pre .1, sizes (at .args .row) (at .pre .0) .whole), omega (arith, held, at .pre .6))
+    (omega (arith, held, at .pre .1, sizes (at .args .row) (at .pre .0 .good) .whole), omega (arith, held, at .pre .4))
 
 cast-answer-2 : tie.Need-cast-answer-2
 cast-answer-2 c = record { fits = omega (arith, few (c .before .before .before .before .before)) }
@@ -57,8 +57,8 @@ returns-2 c =
     (c .answer .ensures ∙ ap₂ found (held ∙ sym (length-datagram (a .row) (map isOne (a .u .now)))) count)
     (datagram-laid (a .row) (map isOne (a .u .now)) (a .out .now) _ held
     (bytes-known (a .out .now) (λ i. compared passed .before .before .slice-known2 .given i .fits))
-    (omega (arith, held, length-map (a .u .now) isOne, start passed .pre .1, sizes (a .row) (start passed .pre .0) .whole))
-    (omega (arith, held, start passed .pre .6))
+    (omega (arith, held, length-map (a .u .now) isOne, start passed .pre .1, sizes (a .row) (start passed .pre .0 .good) .whole))
+    (omega (arith, held, start passed .pre .4))
     (c .before .before .before .pack .ensures))
 
 pub accept-spec : {M : Type 1} → statement M

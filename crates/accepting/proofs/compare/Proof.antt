@@ -16,7 +16,7 @@ use Rattle.accepting.proofs.compare.Statement.{statement}
 use Rattle.accepting.proofs.compare.Tie as tie
 
 short : (c : tie.After-block) → length (c .before .before .before .before .args .u .now) ≤ longestBlock
-short c = let start = c .before .before .before .before in omega (arith, start .pre .1, sizes _ (start .pre .0) .block)
+short c = let start = c .before .before .before .before in omega (arith, start .pre .1, sizes _ (start .pre .0 .good) .block)
 
 array-borrow-prefix-v : tie.Need-array-borrow-prefix-v
 array-borrow-prefix-v c = scratch-enough longestBlock _ (c .block .ensures) (short c)
@@ -27,11 +27,11 @@ slice-aggregate-lay-image c = sym (length-lent longestBlock _ (c .before .block 
 lay-image-requires : tie.Need-lay-image-requires
 lay-image-requires c κs =
     let start = c .before .before .before .before .before .before in (
-      start .pre .0,
+      start .pre .0 .good,
       start .pre .1,
       length-lent longestBlock _ (c .before .before .block .ensures) (short (c .before .before)) ∙ start .pre .1,
       start .pre .2,
-      omega (arith, start .pre .5),
+      omega (arith, start .pre .3),
     )
 
 differences-up-to-requires : tie.Need-differences-up-to-requires
@@ -39,9 +39,9 @@ differences-up-to-requires c κs =
     let start = c .before .before .before .before .before .before .before .before .before .before .before in
     let a = start .args in
     let laid = c .before .before .before .before .lay-image .ensures in (
-      image-long (a .row) (start .pre .0) (a .u .now) (a .image .now) _ (start .pre .1) (start .pre .5) laid ∙ sym (start .pre .3),
-      image-bits (a .row) (start .pre .0) (a .u .now) (a .image .now) _ (start .pre .1) (start .pre .5) laid,
-      start .pre .4,
+      image-long (a .row) (start .pre .0 .good) (a .u .now) (a .image .now) _ (start .pre .1) (start .pre .3) laid ∙ sym (start .pre .0 .size),
+      image-bits (a .row) (start .pre .0 .good) (a .u .now) (a .image .now) _ (start .pre .1) (start .pre .3) laid,
+      start .pre .0 .bits,
     )
 
 returns : tie.Need-returns
@@ -50,7 +50,7 @@ returns c =
     let a = start .args in
     c .differences-up-to .ensures
     ∙ ap (λ (image : List Bool). min (differences image (map isOne (a .came .now))) (a .limit + 1))
-    (image-there (a .row) (start .pre .0) (a .u .now) (a .image .now) _ (start .pre .1) (start .pre .5) (c .before .before .before .before .before .lay-image .ensures))
+    (image-there (a .row) (start .pre .0 .good) (a .u .now) (a .image .now) _ (start .pre .1) (start .pre .3) (c .before .before .before .before .before .lay-image .ensures))
 
 pub compare-spec : {M : Type 1} → statement M
 compare-spec =

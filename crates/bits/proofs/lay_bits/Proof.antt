@@ -36,9 +36,6 @@ loop-again c =
     let at = c .before .loop in
     (search needs, rw (← add-assoc) (more _ _ (at .inv .1) (bits-more (a .count) (a .word) (at .i) (omega arith))))
 
-same-length : tie.Need-same-length Inv-loop μ-loop
-same-length c = c .before .loop .inv .1 .long
-
 returns : tie.Need-returns Inv-loop μ-loop
 returns c = done (c .before .loop .inv .1) (bits-done (c .before .before .args .count) (c .before .before .args .word) (c .before .loop .i) (omega arith)) .1
 
@@ -53,5 +50,5 @@ lay-bits-spec =
     slice-write-out
     (λ c. search needs) (λ c. search needs)
     loop-again
-    same-length
+    (λ c. c .before .loop .inv .1 .long)
     returns)

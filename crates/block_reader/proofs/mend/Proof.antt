@@ -24,20 +24,8 @@ returns-2 c =
     let start = c .before .before .before .before .before .before .before in
     mends-lost (start .args .u .now) (start .pre) _ (told (c .before .before .before)) (c .before .before .if1 .left) _ (c .before .bits-after .ensures) (c .if2 .taken)
 
-add-place : tie.Need-add-place
-add-place c = omega arith
-
-sub-place : tie.Need-sub-place
-sub-place c = omega arith
-
-slice-read-u : tie.Need-slice-read-u
-slice-read-u c = omega arith
-
 sub-u : tie.Need-sub-u
 sub-u c = let start = c .before .before .before .before .before .before .before .before in bit-low (start .args .u .now) (start .pre) _
-
-slice-write-u : tie.Need-slice-write-u
-slice-write-u c = omega arith
 
 returns-3 : tie.Need-returns-3
 returns-3 c =
@@ -52,10 +40,10 @@ mend-spec =
     returns
     (λ c κs. search needs) (λ c. search needs)
     returns-2
-    add-place
-    sub-place
-    slice-read-u
+    (λ c. omega arith)
+    (λ c. omega arith)
+    (λ c. omega arith)
     sub-u
-    slice-write-u
+    (λ c. omega arith)
     (λ c. search needs)
     returns-3)

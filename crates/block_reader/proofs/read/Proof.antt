@@ -96,9 +96,7 @@ read-row-requires : tie.Need-read-row-requires
 read-row-requires c κs =
     let sized = c .before .before .before .before in
     let is-row = row (sized .before) in (
-      rw is-row (good _ (offers (placed (sized .before)))),
-      rw is-row (size sized),
-      all (c .before),
+      record { good = rw is-row (good _ (offers (placed (sized .before)))); size = rw is-row (size sized); bits = all (c .before) },
       rw is-row (fits (c .before .before)),
     )
 

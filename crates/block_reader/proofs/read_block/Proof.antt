@@ -26,7 +26,7 @@ abbrev mended : tie.Else1 → tie.After-mend
 mended c = c .before .before .before
 
 came-long : (c : tie.After-receive) → length (map isOne (start c .args .came .now)) ≡ imageLength (start c .args .row)
-came-long c = length-map (start c .args .came .now) isOne ∙ start c .pre .1
+came-long c = length-map (start c .args .came .now) isOne ∙ start c .pre .0 .size
 
 closed : (c : tie.Else1) → mended c .mend .result ≡ true
 closed c = not-false (mended c .mend .result) (c .if1 .left)
@@ -40,7 +40,7 @@ returns : tie.Need-returns
 returns c =
     let m = c .before .before .before .before in
     let at = taken m in
-    refuses (none-closes _ (start at .pre .0) _ (came-long at) _ _ _ (at .receive .ensures) (m .mend .ensures) (not-true (m .mend .result) (c .before .if1 .taken))) (c .refuse .ensures)
+    refuses (none-closes _ (start at .pre .0 .good) _ (came-long at) _ _ _ (at .receive .ensures) (m .mend .ensures) (not-true (m .mend .result) (c .before .if1 .taken))) (c .refuse .ensures)
 
 returns-2 : tie.Need-returns-2
 returns-2 c =
@@ -48,7 +48,7 @@ returns-2 c =
     let passed = tested .before .before in
     let at = taken (mended passed) in
     refuses
-    (over-refused _ (start at .pre .0) _ (came-long at) _ _ _ (at .receive .ensures) (mended passed .mend .ensures) (closed passed) (fails (tested .over-zero .ensures) (c .before .if2 .taken)))
+    (over-refused _ (start at .pre .0 .good) _ (came-long at) _ _ _ (at .receive .ensures) (mended passed .mend .ensures) (closed passed) (fails (tested .over-zero .ensures) (c .before .if2 .taken)))
     (c .refuse2 .ensures)
 
 accept-requires : tie.Need-accept-requires
@@ -56,12 +56,10 @@ accept-requires c κs =
     let m = mended (c .before .before .before .before .before .before) in
     let at = taken m in (
       start at .pre .0,
-      m .mend .kept .0 ∙ at .receive .kept .1 .1 .1 .0 ∙ start at .pre .3,
+      m .mend .kept .0 ∙ at .receive .kept .1 .1 .1 .0 ∙ start at .pre .1,
       m .mend .ensures .bits,
-      start at .pre .1,
-      start at .pre .2,
-      at .receive .kept .1 .1 .0 ∙ start at .pre .4,
-      start at .pre .5,
+      at .receive .kept .1 .1 .0 ∙ start at .pre .2,
+      start at .pre .3,
     )
 
 returns-3 : tie.Need-returns-3
@@ -71,8 +69,8 @@ returns-3 c =
     let passed = zero .before .before .before in
     let m = mended passed in
     let at = taken m in
-    let long = m .mend .kept .0 ∙ at .receive .kept .1 .1 .1 .0 ∙ start at .pre .3 in
-    rw (within-one _ (start at .pre .0) _ (came-long at) _ _ _ (at .receive .ensures) (m .mend .ensures) (closed passed) long (holds (zero .before .over-zero .ensures) (zero .if2 .left)))
+    let long = m .mend .kept .0 ∙ at .receive .kept .1 .1 .1 .0 ∙ start at .pre .1 in
+    rw (within-one _ (start at .pre .0 .good) _ (came-long at) _ _ _ (at .receive .ensures) (m .mend .ensures) (closed passed) long (holds (zero .before .over-zero .ensures) (zero .if2 .left)))
     (accepted .accept .ensures)
 
 pub read-block-spec : {M : Type 1} → statement M

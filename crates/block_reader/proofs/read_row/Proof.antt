@@ -11,10 +11,10 @@ use Rattle.block_reader.proofs.read_row.Statement.{statement}
 use Rattle.block_reader.proofs.read_row.Tie as tie
 
 short : (c : tie.After-image) → c .before .before .before .before .before .args .row .k ≤ longestBlock
-short c = sizes _ (c .before .before .before .before .before .pre .0) .block
+short c = sizes _ (c .before .before .before .before .before .pre .0 .good) .block
 
 image-short : (c : tie.After-image) → length (c .before .before .before .before .before .args .came .now) ≤ longestImage
-image-short c = let start = c .before .before .before .before .before in omega (arith, start .pre .1, sizes _ (start .pre .0) .image)
+image-short c = let start = c .before .before .before .before .before in omega (arith, start .pre .0 .size, sizes _ (start .pre .0 .good) .image)
 
 array-borrow-prefix-u : tie.Need-array-borrow-prefix-u
 array-borrow-prefix-u c = scratch-enough longestBlock _ (c .before .block .ensures) (short c)
@@ -33,11 +33,9 @@ read-block-requires c κs =
     let start = c .before .before .before .before .before .before .before .before in
     let at = c .before .before .before in (
       start .pre .0,
-      start .pre .1,
-      start .pre .2,
       length-lent longestBlock _ (at .before .block .ensures) (short at),
-      length-lent longestImage _ (at .image .ensures) (image-short at) ∙ start .pre .1,
-      start .pre .3,
+      length-lent longestImage _ (at .image .ensures) (image-short at) ∙ start .pre .0 .size,
+      start .pre .1,
     )
 
 returns : tie.Need-returns

@@ -13,11 +13,11 @@ use Rattle.check32.proofs.register.Statement.{statement}
 use Rattle.check32.proofs.register.Tie as tie
 
 abbrev Inv-loop : tie.InvT-loop
-Inv-loop from bits residues r₀ j₀ j-end r j =
+Inv-loop from bits marks r₀ j₀ j-end r j =
     (j ≤ j-end) × (j-end ≡ length bits / 8) × (registerFrom r (map isOne (drop (j * 8) bits)) ≡ registerFrom from (map isOne bits))
 
 abbrev μ-loop : tie.MeasureT-loop
-μ-loop from bits residues r₀ j₀ j-end r j = j-end - j
+μ-loop from bits marks r₀ j₀ j-end r j = j-end - j
 
 abbrev Inv-loop2 : tie.InvT-loop2
 Inv-loop2 from bits r₀ i₀ i-end r i =

@@ -1,4 +1,4 @@
--- The residues of the two halves of the register's top byte and the byte together. Assumes nothing.
+-- The marks of the two halves of the register's top byte and the byte together. Assumes nothing.
 use native.Mathlib.Omega.{arith}
 use borrow.Author.Needs.{needs}
 use Rattle.check32.proofs.ByteStep.{both-lt, byte-word}

@@ -5,14 +5,14 @@ use Rattle.bits.specs.Row.{highFirst}
 use Rattle.check32.specs.Check.{registerFrom}
 
 -- the register, from zero, after the eight bits of a byte
-abbrev pub byteResidue : ℕ → ℕ
-byteResidue n = registerFrom 0 (highFirst 8 n)
+abbrev pub byteMark : ℕ → ℕ
+byteMark n = registerFrom 0 (highFirst 8 n)
 
 -- of some bytes from n on, each `apart` from the one before
-unfoldable pub residuesFrom : ℕ → ℕ → ℕ → List ℕ
-residuesFrom apart n zero = []
-residuesFrom apart n (suc left) = byteResidue n ∷ residuesFrom apart (n + apart) left
+unfoldable pub marksFrom : ℕ → ℕ → ℕ → List ℕ
+marksFrom apart n zero = []
+marksFrom apart n (suc left) = byteMark n ∷ marksFrom apart (n + apart) left
 
 -- of the bytes below 16, and then of the multiples of 16
-unfoldable pub byteResidues : List ℕ
-byteResidues = residuesFrom 1 0 16 ++ residuesFrom 16 0 16
+unfoldable pub byteMarks : List ℕ
+byteMarks = marksFrom 1 0 16 ++ marksFrom 16 0 16

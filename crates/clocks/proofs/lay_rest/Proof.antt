@@ -22,57 +22,57 @@ abbrev μ-loop : tie.MeasureT-loop
 loop-holds : tie.Need-loop-holds Inv-loop μ-loop
 loop-holds c =
     let p = c .before .before .before .pre in
-    (search needs, record { ten = search needs; within = p .1 .0 .0; place = sym (p .1 .0 .1); small-a = p .1 .0 .2; small-b = p .1 .0 .3; laying = start _ _ _ (p .1 .1) })
+    (search needs, record { ten = search needs; within = p .0 .within; place = sym (p .0 .begins); small-a = p .0 .small-a; small-b = p .0 .small-b; laying = start _ _ _ (p .1) })
 
 mul-flags : tie.Need-mul-flags Inv-loop μ-loop
 mul-flags c =
-    let p = c .before .before .before .before .before .before .before .pre .0 in
+    let p = c .before .before .before .before .before .before .before .pre .0 .ready in
     omega (arith, place-below p (c .before .before .before .loop .inv .1), p .few)
 
 array-copy-out-flags : tie.Need-array-copy-out-flags Inv-loop μ-loop
 array-copy-out-flags c =
-    let p = c .before .before .before .before .before .before .before .pre .0 in
+    let p = c .before .before .before .before .before .before .before .pre .0 .ready in
     omega (arith, place-below p (c .before .before .before .loop .inv .1), p .few)
 
 six-requires : tie.Need-six-requires Inv-loop μ-loop
 six-requires c κs =
-    let p = c .before .before .before .before .before .before .before .before .pre .0 in
+    let p = c .before .before .before .before .before .before .before .before .pre .0 .ready in
     let l = c .before .before .before .before .loop in
     (l .inv .1 .small-a, l .inv .1 .small-b, bit-low _ (p .bits-u) (l .s), bit-low _ (p .bits-v) (l .s))
 
 lay-requires : tie.Need-lay-requires Inv-loop μ-loop
 lay-requires c κs =
-    let p = c .before .before .before .before .before .before .before .before .before .before .pre .0 in
+    let p = c .before .before .before .before .before .before .before .before .before .before .pre .0 .ready in
     let l = c .before .before .before .before .before .before .loop in
     (p .pattern-flags (l .c), rw (c .before .six .ensures) (clock-fits p (l .inv .1) (omega arith)))
 
 next-requires : tie.Need-next-requires Inv-loop μ-loop
 next-requires c κs =
-    let p = c .before .before .before .before .before .before .before .before .before .before .before .before .before .pre .0 in
+    let p = c .before .before .before .before .before .before .before .before .before .before .before .before .before .pre .0 .ready in
     let l = c .before .before .before .before .before .before .before .before .before .loop in
     (l .inv .1 .small-a, bit-low _ (p .bits-u) (l .s))
 
 next-requires-2 : tie.Need-next-requires-2 Inv-loop μ-loop
 next-requires-2 c κs =
-    let p = c .before .before .before .before .before .before .before .before .before .before .before .before .before .before .pre .0 in
+    let p = c .before .before .before .before .before .before .before .before .before .before .before .before .before .before .pre .0 .ready in
     let l = c .before .before .before .before .before .before .before .before .before .before .loop in
     (l .inv .1 .small-b, bit-low _ (p .bits-v) (l .s))
 
 next-clock-requires : tie.Need-next-clock-requires Inv-loop μ-loop
 next-clock-requires c κs =
-    let p = c .before .before .before .before .before .before .before .before .before .before .before .before .before .before .before .pre .0 in
+    let p = c .before .before .before .before .before .before .before .before .before .before .before .before .before .before .before .pre .0 .ready in
     (place-below p (c .before .before .before .before .before .before .before .before .before .before .before .loop .inv .1), p .few)
 
 loop-again : tie.Need-loop-again Inv-loop μ-loop
 loop-again c =
-    let p = c .before .before .before .before .before .before .before .before .before .before .before .before .before .before .before .before .pre .0 in
+    let p = c .before .before .before .before .before .before .before .before .before .before .before .before .before .before .before .before .pre .0 .ready in
     let l = c .before .before .before .before .before .before .before .before .before .before .before .before .loop in
     let laid = rw (c .before .before .before .before .before .before .before .six .ensures) at (c .before .before .before .before .before .lay .ensures) in
     (l .inv .0, at-next p (l .inv .1) (omega arith) laid (c .before .before .next .ensures) (c .before .next2 .ensures) (c .next-clock .ensures))
 
 end-requires : tie.Need-end-requires Inv-loop μ-loop
 end-requires c κs =
-    let p = c .before .before .before .before .before .before .pre .0 in
+    let p = c .before .before .before .before .before .before .pre .0 .ready in
     let i = c .before .before .loop .inv .1 in
     ((i .small-a, i .small-b, p .tail-flags), ending-fits p i (omega arith))
 
@@ -81,7 +81,7 @@ same-length c = c .before .before .end .kept .1 .1 .1 .1 .0 ∙ c .before .befor
 
 returns : tie.Need-returns Inv-loop μ-loop
 returns c =
-    let p = c .before .before .before .before .before .before .before .before .before .pre .0 in
+    let p = c .before .before .before .before .before .before .before .before .before .pre .0 .ready in
     at-end p (c .before .before .before .before .before .loop .inv .1) (omega arith) (c .before .before .end .ensures)
 
 pub lay-rest-spec : {M : Type 1} → statement M

@@ -2,7 +2,7 @@
 use mathlib.Core.Path.{_≡_}
 use mathlib.Core.Bool.{true}
 use mathlib.Core.List.{List, [], map}
-use Prim.Native.Nat.{ℕ, _≤_, _<_}
+use Prim.Native.Nat.{ℕ, _%_, _≤_, _<_}
 use lib.ListN.{length, getD, take, drop}
 use Rattle.bits.specs.Bits.{isOne, byte, allBits}
 use Rattle.turbo.specs.Encoder.{Register, start}
@@ -24,6 +24,14 @@ pub record Ready (u v : List ℕ) (pattern : List (List ℕ)) (period : ℕ) (ta
   pub few : period ≤ 10
   pub pattern-flags : AllAtMostTwice pattern
   pub tail-flags : AllAtMostTwice tail
+
+-- the same, with the clocks before `from` laid, where the pattern begins, and the registers a and b then left
+pub record ReadyFrom (u v : List ℕ) (pattern : List (List ℕ)) (period : ℕ) (tail : List (List ℕ)) (from a b : ℕ) : Type 0 where
+  pub ready : Ready u v pattern period tail
+  pub within : from ≤ length u
+  pub begins : from % period ≡ 0
+  pub small-a : a < 8
+  pub small-b : b < 8
 
 -- the coded bits of both, one to a byte
 unfoldable pub codedBytes : List ℕ → List ℕ → List (List ℕ) → ℕ → List (List ℕ) → List ℕ

@@ -5,7 +5,7 @@ use mathlib.Core.List.{List}
 use Prim.Native.Nat.{_≤_}
 use lib.ListN.{length}
 use Rattle.bits.specs.Row.{differences}
-use Rattle.check32.specs.Check.{Closes}
+use Rattle.check32.specs.working.Closes.{Closes}
 use Rattle.distance.specs.working.Coding.{Coding, image}
 
 -- k bits whose check is right

@@ -69,7 +69,7 @@ lay-rest-requires : tie.Need-lay-rest-requires Inv-loop μ-loop
 lay-rest-requires c κs =
     let p = c .before .before .before .before .before .before .before .before .before .before .before .pre .0 in
     let l = c .before .before .loop .inv in
-    (p, ((l .1 .within, l .1 .first, l .1 .small-a, l .1 .small-b), rest-fits p (l .0 .long) (l .1)))
+    (record { ready = p; within = l .1 .within; begins = l .1 .first; small-a = l .1 .small-a; small-b = l .1 .small-b }, rest-fits p (l .0 .long) (l .1))
 
 same-length : tie.Need-same-length Inv-loop μ-loop
 same-length c = c .before .before .lay-rest .kept .1 .1 .1 .1 .1 .1 .1 .1 .1 .0 ∙ c .before .before .before .before .before .loop .inv .1 .laying .long

@@ -35,9 +35,6 @@ loop-again c =
     let at = c .before .before .before .before .before .loop in
     (search needs, rows-next (st .args .row) (st .args .u .now) (st .pre .0) (at .i) (omega arith) (at .inv .1) (c .before .before .lay-row .ensures))
 
-same-length : tie.Need-same-length Inv-loop μ-loop
-same-length c = c .before .loop .inv .1 .long
-
 returns : tie.Need-returns Inv-loop μ-loop
 returns c =
     let st = c .before .before .before .before .before in
@@ -58,5 +55,5 @@ interleave-spec =
     lay-row-requires
     (λ c. search needs) (λ c. search needs)
     loop-again
-    same-length
+    (λ c. c .before .loop .inv .1 .long)
     returns)

@@ -10,8 +10,8 @@ use borrow.Author.Needs.{needs}
 use Rattle.lists.specs.working.Laying.{Laying}
 use Rattle.lists.proofs.Over.{fits, done}
 use Rattle.links.proofs.Facts.{sizes}
-use Rattle.interleaver.proofs.Laid.{place-code, row-small, pair-small, inputs, pairsFrom, pairs-start, pairs-done, pairs-more, pairs-next, pairs-room, place-inside}
-use Rattle.turbo.proofs.Permutation.{digitsPlace}
+use Rattle.interleaver.proofs.Laid.{position-code, row-small, pair-small, inputs, pairsFrom, pairs-start, pairs-done, pairs-more, pairs-next, pairs-room, position-inside}
+use Rattle.turbo.proofs.Permutation.{digitsPosition}
 use Rattle.interleaver.proofs.lay_row.Statement.{statement}
 use Rattle.interleaver.proofs.lay_row.Tie as tie
 
@@ -63,19 +63,19 @@ mul-s-2 c =
     let st = c .before .before .before .before .before .before .before in
     record { fits = omega (arith, pair-small (st .args .row) (st .pre .0) (st .args .i) (c .before .loop .j) (st .pre .1) (omega arith)) }
 
-place-requires : tie.Need-place-requires Inv-loop μ-loop
-place-requires c κs =
+position-requires : tie.Need-position-requires Inv-loop μ-loop
+position-requires c κs =
     let st = c .before .before .before .before .before .before .before in
     (st .pre .0, mod-lt _ (sizes (st .args .row) (st .pre .0) .half), search (small (c .before .before .before .before)), search needs, search needs)
 
--- the first place of the pair, and that it is one of the block
-first-is : (c : tie.After-place Inv-loop μ-loop) → c .place .result ≡ digitsPlace (c .before .before .before .before .before .before .before .before .args .row) 0 (c .before .before .before .before .before .before .before .before .args .i) (c .before .before .loop .j)
-first-is c = c .place .ensures ∙ place-code (c .before .before .before .before .before .before .before .before .args .row) 0 (c .before .before .before .before .before .before .before .before .args .i) (c .before .before .loop .j)
+-- the first position of the pair, and that it is one of the block
+first-is : (c : tie.After-position Inv-loop μ-loop) → c .position .result ≡ digitsPosition (c .before .before .before .before .before .before .before .before .args .row) 0 (c .before .before .before .before .before .before .before .before .args .i) (c .before .before .loop .j)
+first-is c = c .position .ensures ∙ position-code (c .before .before .before .before .before .before .before .before .args .row) 0 (c .before .before .before .before .before .before .before .before .args .i) (c .before .before .loop .j)
 
-first-inside : (c : tie.After-place Inv-loop μ-loop) → (1 ≤ c .place .result) × (c .place .result ≤ length (c .before .before .before .before .before .before .before .before .args .u .now))
+first-inside : (c : tie.After-position Inv-loop μ-loop) → (1 ≤ c .position .result) × (c .position .result ≤ length (c .before .before .before .before .before .before .before .before .args .u .now))
 first-inside c =
     let st = c .before .before .before .before .before .before .before .before in
-    rw (first-is c) (place-inside (st .args .row) (st .args .u .now) (st .pre .0) (st .pre .2) (st .pre .4) 0 (st .args .i) (c .before .before .loop .j) (omega arith) (omega arith))
+    rw (first-is c) (position-inside (st .args .row) (st .args .u .now) (st .pre .0) (st .pre .2) (st .pre .4) 0 (st .args .i) (c .before .before .loop .j) (omega arith) (omega arith))
 
 sub-v : tie.Need-sub-v Inv-loop μ-loop
 sub-v c = first-inside c .0
@@ -89,19 +89,19 @@ slice-write-v c =
     let at = c .before .before .before .loop in
     fits _ _ (at .inv .1) (pairs-more (st .args .row) (st .args .u .now) (st .pre .0) (st .pre .2) (st .pre .4) (st .args .i) (at .j) (omega arith))
 
-place-requires-2 : tie.Need-place-requires-2 Inv-loop μ-loop
-place-requires-2 c κs =
+position-requires-2 : tie.Need-position-requires-2 Inv-loop μ-loop
+position-requires-2 c κs =
     let st = c .before .before .before .before .before .before .before .before .before in
     (st .pre .0, mod-lt _ (sizes (st .args .row) (st .pre .0) .half), search (small (c .before .before .before .before .before .before)), search needs, search needs)
 
 -- the second
-second-is : (c : tie.After-place2 Inv-loop μ-loop) → c .place2 .result ≡ digitsPlace (c .before .before .before .before .before .before .before .before .before .before .args .row) 1 (c .before .before .before .before .before .before .before .before .before .before .args .i) (c .before .before .before .before .loop .j)
-second-is c = c .place2 .ensures ∙ place-code (c .before .before .before .before .before .before .before .before .before .before .args .row) 1 (c .before .before .before .before .before .before .before .before .before .before .args .i) (c .before .before .before .before .loop .j)
+second-is : (c : tie.After-position2 Inv-loop μ-loop) → c .position2 .result ≡ digitsPosition (c .before .before .before .before .before .before .before .before .before .before .args .row) 1 (c .before .before .before .before .before .before .before .before .before .before .args .i) (c .before .before .before .before .loop .j)
+second-is c = c .position2 .ensures ∙ position-code (c .before .before .before .before .before .before .before .before .before .before .args .row) 1 (c .before .before .before .before .before .before .before .before .before .before .args .i) (c .before .before .before .before .loop .j)
 
-second-inside : (c : tie.After-place2 Inv-loop μ-loop) → (1 ≤ c .place2 .result) × (c .place2 .result ≤ length (c .before .before .before .before .before .before .before .before .before .before .args .u .now))
+second-inside : (c : tie.After-position2 Inv-loop μ-loop) → (1 ≤ c .position2 .result) × (c .position2 .result ≤ length (c .before .before .before .before .before .before .before .before .before .before .args .u .now))
 second-inside c =
     let st = c .before .before .before .before .before .before .before .before .before .before in
-    rw (second-is c) (place-inside (st .args .row) (st .args .u .now) (st .pre .0) (st .pre .2) (st .pre .4) 1 (st .args .i) (c .before .before .before .before .loop .j) (omega arith) (omega arith))
+    rw (second-is c) (position-inside (st .args .row) (st .args .u .now) (st .pre .0) (st .pre .2) (st .pre .4) 1 (st .args .i) (c .before .before .before .before .loop .j) (omega arith) (omega arith))
 
 sub-v-2 : tie.Need-sub-v-2 Inv-loop μ-loop
 sub-v-2 c = second-inside c .0
@@ -126,9 +126,6 @@ loop-again c =
     let at = c .before .before .before .before .before .loop in
     (search needs, rw (first-is (c .before .before .before), second-is (c .before)) (pairs-next (st .args .row) (st .args .u .now) (st .pre .0) (st .pre .2) (st .pre .4) (st .args .i) (at .j) (omega arith) (at .inv .1)))
 
-same-length : tie.Need-same-length Inv-loop μ-loop
-same-length c = c .before .loop .inv .1 .long
-
 returns : tie.Need-returns Inv-loop μ-loop
 returns c =
     let st = c .before .before .before .before .before .before .before in
@@ -150,16 +147,16 @@ lay-row-spec =
     mul-s
     add-s
     mul-s-2
-    place-requires
+    position-requires
     sub-v
     shared-slice-read-v
     slice-write-v
-    place-requires-2
+    position-requires-2
     sub-v-2
     shared-slice-read-v-2
     add-v
     slice-write-v-2
     (λ c. search needs) (λ c. search needs)
     loop-again
-    same-length
+    (λ c. c .before .loop .inv .1 .long)
     returns)

@@ -10,16 +10,10 @@ use Rattle.links.proofs.Table.{image-lengths}
 use Rattle.links.proofs.image_length_at.Statement.{statement}
 use Rattle.links.proofs.image_length_at.Tie as tie
 
-mul-result : tie.Need-mul-result
-mul-result c = search (needs, row-count)
-
-array-read-result : tie.Need-array-read-result
-array-read-result c = search (needs, row-count)
-
 returns : tie.Need-returns
 returns c =
     let place = c .args .place in
     ap (λ (l : List ℕ). getD l place 0) (sym image-lengths) ∙ image-length-is place (search needs)
 
 pub image-length-at-spec : {M : Type 1} → statement M
-image-length-at-spec = tie.close (tie.spec mul-result array-read-result returns)
+image-length-at-spec = tie.close (tie.spec (λ c. search (needs, row-count)) (λ c. search (needs, row-count)) returns)

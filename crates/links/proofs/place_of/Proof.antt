@@ -29,9 +29,6 @@ returns c =
     let link = c .before .before .before .before .args .link in
     omega (arith, at .inv .2, place-here rows link (at .i) (omega (arith, row-count)) (sym (link-is (at .i) (omega arith)) ∙ c .if1 .taken))
 
-loop-less : tie.Need-loop-less Inv-loop μ-loop
-loop-less c = search (needs, row-count)
-
 loop-again : tie.Need-loop-again Inv-loop μ-loop
 unfolding rows
 loop-again c =
@@ -52,6 +49,6 @@ place-of-spec =
     (λ c. search needs) (λ c. search needs) (λ c. search needs)
     returns
     (λ c. search needs)
-    loop-less
+    (λ c. search (needs, row-count))
     loop-again
     returns-2)

@@ -4,7 +4,8 @@ use mathlib.Core.List.{List, [], _∷_}
 use Prim.Native.Nat.{ℕ, zero, suc, _*_, _/_, _%_}
 use lib.Dec.{eqb, ltb, leb}
 use lib.ListN.{length, getD, take, drop}
-use Rattle.lists.specs.Every.{every, together}
+use Rattle.lists.specs.Every.{every}
+use Rattle.lists.specs.working.Together.{together}
 use Rattle.links.specs.declared.Row.{Row}
 use Rattle.links.specs.Patterns.{patternOf, tailOf}
 use Rattle.links.specs.Sizes.{imageLength}

@@ -9,7 +9,7 @@ returns : tie.Need-returns
 returns c = c .finished .ensures ∙ sym (fill-only (c .before .before .before .before .args .left .now) (sym (c .before .before .only-fill .ensures) ∙ c .before .if1 .taken))
 
 returns-2 : tie.Need-returns-2
-returns-2 c = c .refused .ensures ∙ sym (fill-broken (c .before .before .before .before .args .left .now) (sym (c .before .before .only-fill .ensures) ∙ c .before .if1 .left))
+returns-2 c = c .refuse .ensures ∙ sym (fill-broken (c .before .before .before .before .args .left .now) (sym (c .before .before .only-fill .ensures) ∙ c .before .if1 .left))
 
 pub fill-at-spec : {M : Type 1} → statement M
 fill-at-spec =

@@ -11,7 +11,7 @@ use Rattle.messages.proofs.step_message.Tie as tie
 returns : tie.Need-returns
 returns c =
     let a = c .before .before .before .args in
-    c .refused .ensures ∙ sym (step-past (a .datagram .now) (a .position) (omega arith))
+    c .refuse .ensures ∙ sym (step-past (a .datagram .now) (a .position) (omega arith))
 
 returns-2 : tie.Need-returns-2
 returns-2 c =

@@ -26,9 +26,6 @@ loop-again c =
     let from = c .before .before .before .args .from .now in
     (search needs, search needs, more _ _ (at .inv .2) (rw (drop-cons from (at .i) 0 (omega arith), add-one)))
 
-same-length : tie.Need-same-length Inv-loop μ-loop
-same-length c = c .before .loop .inv .2 .long
-
 returns : tie.Need-returns Inv-loop μ-loop
 returns c =
     let at = c .before .loop in
@@ -44,5 +41,5 @@ copy-spec =
     loop-holds
     (λ c. search needs) (λ c. search needs) (λ c. search needs) (λ c. search needs)
     loop-again
-    same-length
+    (λ c. c .before .loop .inv .2 .long)
     returns)

@@ -62,9 +62,6 @@ loop-again c =
     (c .if1 .came) in
     taking-more (a .row) (start .pre .0) (a .coded .now) (a .u .now) (start .pre .1) (start .pre .2) (start .pre .3) (at .inv) _ _ (omega arith) (here (c .before) .sum) turn
 
-same-length : tie.Need-same-length Inv-loop μ-loop
-same-length c = c .before .loop .inv .lays .long
-
 returns : tie.Need-returns Inv-loop μ-loop
 returns c =
     let start = c .before .before .before .before .before .before .before in
@@ -87,5 +84,5 @@ take-x-spec =
     add-clock
     (λ c. search needs) (λ c. search needs)
     loop-again
-    same-length
+    (λ c. c .before .loop .inv .lays .long)
     returns)

@@ -38,9 +38,6 @@ loop-again c =
     let six-bits : length (a .t2) ≡ 6 = search needs in
     (search needs, more-piece _ _ (l .inv .1) (passed-more (a .t1) (a .t2) (l .x) (omega arith) (omega arith)) (c .before .before .pass .ensures))
 
-same-length : tie.Need-same-length Inv-loop μ-loop
-same-length c = c .before .loop .inv .1 .long
-
 returns : tie.Need-returns Inv-loop μ-loop
 returns c =
     let a = c .before .before .before .args in
@@ -59,5 +56,5 @@ lay-spec =
     pass-requires
     (λ c. search needs) (λ c. search needs)
     loop-again
-    same-length
+    (λ c. c .before .loop .inv .1 .long)
     returns)

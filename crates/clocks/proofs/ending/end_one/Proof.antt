@@ -28,9 +28,6 @@ abbrev μ-loop : tie.MeasureT-loop
 loop-holds : tie.Need-loop-holds Inv-loop μ-loop
 loop-holds c = (search needs, search needs, start _ _ _ (c .before .pre .1))
 
-alone-requires : tie.Need-alone-requires Inv-loop μ-loop
-alone-requires c κs = c .before .before .loop .inv .1
-
 lay-requires : tie.Need-lay-requires Inv-loop μ-loop
 lay-requires c κs =
     let a = c .before .before .before .before .before .before .args in
@@ -43,9 +40,6 @@ lay-requires c κs =
       c .before .before .before .before .before .before .pre .0 .2 (l .t),
       rw (c .before .alone .ensures) (fits-piece clock rest (l .inv .2) (ending-more (a .second) (a .t1) (l .t) (a .from + 3) r after (omega arith) (omega arith) refl)),
     )
-
-fed-back-requires : tie.Need-fed-back-requires Inv-loop μ-loop
-fed-back-requires c κs = c .before .before .before .before .before .before .before .loop .inv .1
 
 next-requires : tie.Need-next-requires Inv-loop μ-loop
 next-requires c κs =
@@ -64,9 +58,6 @@ loop-again c =
       more-piece _ _ (l .inv .2) (ending-more (a .second) (a .t1) (l .t) (a .from + 3) (registerOf (l .r)) (registerOf (c .next .result)) (omega arith) (omega arith) after) laid,
     )
 
-same-length : tie.Need-same-length Inv-loop μ-loop
-same-length c = c .before .loop .inv .2 .long
-
 returns : tie.Need-returns Inv-loop μ-loop
 returns c =
     let a = c .before .before .before .args in
@@ -82,11 +73,11 @@ end-one-spec =
     (λ c. search needs)
     loop-holds
     (λ c. search needs) (λ c. search needs)
-    alone-requires
+    (λ c κs. c .before .before .loop .inv .1)
     lay-requires
-    fed-back-requires
+    (λ c κs. c .before .before .before .before .before .before .before .loop .inv .1)
     next-requires
     (λ c. search needs) (λ c. search needs)
     loop-again
-    same-length
+    (λ c. c .before .loop .inv .2 .long)
     returns)

@@ -6,19 +6,19 @@ use Rattle.datagrams.proofs.packing.byte_over.Statement.{statement}
 use Rattle.datagrams.proofs.packing.byte_over.Tie as tie
 
 add-front : tie.Need-add-front
-add-front c = let a = c .before .before .args in record { fits = front-fits (a .held) (a .from) (a .bits .now) (omega arith) (c .before .before .pre) (c .number-of .result) (c .number-of .ensures) }
+add-front c = let a = c .before .before .args in record { fits = front-fits (a .old) (a .from) (a .bits .now) (omega arith) (c .before .before .pre) (c .number-of .result) (c .number-of .ensures) }
 
 rem-result : tie.Need-rem-result
-rem-result c = let a = c .before .before .args in unit-some (a .held) (a .from) (a .bits .now) (omega arith) (c .before .before .pre) (c .number-of .result) (c .number-of .ensures)
+rem-result c = let a = c .before .before .args in unit-some (a .old) (a .from) (a .bits .now) (omega arith) (c .before .before .pre) (c .number-of .result) (c .number-of .ensures)
 
 add-result : tie.Need-add-result
-add-result c = let a = c .before .before .args in record { fits = omega (arith, whole-lt (a .held) (a .from) (a .bits .now) (omega arith) (c .before .before .pre) (c .number-of .result) (c .number-of .ensures)) }
+add-result c = let a = c .before .before .args in record { fits = omega (arith, whole-lt (a .old) (a .from) (a .bits .now) (omega arith) (c .before .before .pre) (c .number-of .result) (c .number-of .ensures)) }
 
 cast-result-3 : tie.Need-cast-result-3
-cast-result-3 c = let a = c .before .before .args in record { fits = omega (arith, whole-lt (a .held) (a .from) (a .bits .now) (omega arith) (c .before .before .pre) (c .number-of .result) (c .number-of .ensures)) }
+cast-result-3 c = let a = c .before .before .args in record { fits = omega (arith, whole-lt (a .old) (a .from) (a .bits .now) (omega arith) (c .before .before .pre) (c .number-of .result) (c .number-of .ensures)) }
 
 returns : tie.Need-returns
-returns c = let a = c .before .before .args in whole-bits (a .held) (a .from) (a .bits .now) (omega arith) (c .before .before .pre) (c .number-of .result) (c .number-of .ensures)
+returns c = let a = c .before .before .args in whole-bits (a .old) (a .from) (a .bits .now) (omega arith) (c .before .before .pre) (c .number-of .result) (c .number-of .ensures)
 
 pub byte-over-spec : {M : Type 1} → statement M
 byte-over-spec =

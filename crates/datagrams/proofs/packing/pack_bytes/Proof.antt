@@ -9,14 +9,14 @@ use borrow.Author.Needs.{needs}
 use Rattle.lists.specs.working.Laying.{Laying}
 use Rattle.lists.proofs.Over.{start, fits, more, done}
 use Rattle.bits.specs.Bits.{isOne}
-use Rattle.bits.specs.Datagram.{bytesOf}
-use Rattle.bits.proofs.Datagram.{length-bytesOf, bytes-more, bytes-done}
+use Rattle.bits.specs.Datagram.{asBytes}
+use Rattle.bits.proofs.Datagram.{length-asBytes, bytes-more, bytes-done}
 use Rattle.datagrams.proofs.packing.pack_bytes.Statement.{statement}
 use Rattle.datagrams.proofs.packing.pack_bytes.Tie as tie
 
 abbrev Inv-loop : tie.InvT-loop
 Inv-loop row j out₀ i₀ i-end out i =
-    (i ≤ i-end) × (i-end ≡ length row / 8) × Laying out₀ j (bytesOf (length row / 8) (map isOne row)) out (j + i) (bytesOf (length row / 8 - i) (map isOne (drop (i * 8) row)))
+    (i ≤ i-end) × (i-end ≡ length row / 8) × Laying out₀ j (asBytes (length row / 8) (map isOne row)) out (j + i) (asBytes (length row / 8 - i) (map isOne (drop (i * 8) row)))
 
 abbrev μ-loop : tie.MeasureT-loop
 μ-loop row j out₀ i₀ i-end out i = i-end - i
@@ -24,7 +24,7 @@ abbrev μ-loop : tie.MeasureT-loop
 loop-holds : tie.Need-loop-holds Inv-loop μ-loop
 loop-holds c =
     let a = c .before .before .args in
-    (search needs, search needs, rw (add-zero, sub-zero) (start (a .out .now) (a .j) (bytesOf (length (a .row .now) / 8) (map isOne (a .row .now))) (simp length-bytesOf (omega arith))))
+    (search needs, search needs, rw (add-zero, sub-zero) (start (a .out .now) (a .j) (asBytes (length (a .row .now) / 8) (map isOne (a .row .now))) (simp length-asBytes (omega arith))))
 
 slice-write-out : tie.Need-slice-write-out Inv-loop μ-loop
 slice-write-out c =
@@ -37,9 +37,6 @@ loop-again c =
     let row = c .before .before .before .before .before .args .row .now in
     let at = c .before .before .loop in
     (search needs, search needs, rw (c .byte-at .ensures, ← add-assoc) (more _ _ (at .inv .2) (bytes-more (length row / 8) (at .i) row (omega arith))))
-
-same-length : tie.Need-same-length Inv-loop μ-loop
-same-length c = c .before .loop .inv .2 .long
 
 returns : tie.Need-returns Inv-loop μ-loop
 returns c =
@@ -58,5 +55,5 @@ pack-bytes-spec =
     slice-write-out
     (λ c. search needs) (λ c. search needs)
     loop-again
-    same-length
+    (λ c. c .before .loop .inv .2 .long)
     returns)

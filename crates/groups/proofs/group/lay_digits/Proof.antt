@@ -22,12 +22,6 @@ abbrev μ-loop : tie.MeasureT-loop
 loop-holds : tie.Need-loop-holds Inv-loop μ-loop
 loop-holds c = (search needs, rw add-zero (start _ _ _ (c .before .before .pre .1)))
 
-mul-out : tie.Need-mul-out Inv-loop μ-loop
-mul-out c = omega (arith, c .wide .ensures .1)
-
-array-read-out : tie.Need-array-read-out Inv-loop μ-loop
-array-read-out c = omega (arith, c .wide .ensures .1)
-
 slice-write-out : tie.Need-slice-write-out Inv-loop μ-loop
 slice-write-out c =
     let a = c .before .before .before .before .before .before .args in
@@ -47,9 +41,6 @@ loop-again c =
 add-result : tie.Need-add-result Inv-loop μ-loop
 add-result c = omega (arith, fits-rest (c .before .loop .inv .1))
 
-same-length : tie.Need-same-length Inv-loop μ-loop
-same-length c = c .before .loop .inv .1 .long
-
 returns : tie.Need-returns Inv-loop μ-loop
 returns c =
     let a = c .before .before .before .before .args in
@@ -65,12 +56,12 @@ lay-digits-spec =
     μ-loop
     loop-holds
     (λ c. search needs) (λ c κs. search needs)
-    mul-out
-    array-read-out
+    (λ c. omega (arith, c .wide .ensures .1))
+    (λ c. omega (arith, c .wide .ensures .1))
     (λ c. search needs) (λ c. search needs) (λ c. search needs) (λ c. search needs)
     slice-write-out
     (λ c. search needs) (λ c. search needs)
     loop-again
     add-result
-    same-length
+    (λ c. c .before .loop .inv .1 .long)
     returns)

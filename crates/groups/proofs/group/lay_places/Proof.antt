@@ -55,9 +55,6 @@ loop-again c =
     let laid = rw (c .before .before .before .before .places-of .ensures) at (c .before .before .lay .ensures) in
     (search needs, more-piece _ _ (l .inv .1) more laid)
 
-same-length : tie.Need-same-length Inv-loop μ-loop
-same-length c = c .before .loop .inv .1 .long
-
 returns : tie.Need-returns Inv-loop μ-loop
 returns c =
     let a = c .before .before .before .args in
@@ -80,5 +77,5 @@ lay-places-spec =
     lay-requires
     (λ c. search needs) (λ c. search needs)
     loop-again
-    same-length
+    (λ c. c .before .loop .inv .1 .long)
     returns)

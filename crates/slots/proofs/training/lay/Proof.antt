@@ -33,9 +33,6 @@ loop-again c =
     let at = c .before .loop in
     (search needs, at .inv .1, training-next _ (at .out) (at .i) _ (omega arith) (symbol-at (at .i) (omega arith)) (at .inv .2))
 
-same-length : tie.Need-same-length Inv-loop μ-loop
-same-length c = c .before .loop .inv .2 .long
-
 returns : tie.Need-returns Inv-loop μ-loop
 returns c = done (c .before .loop .inv .2) (training-done (c .before .loop .i) (omega arith)) .1
 
@@ -52,5 +49,5 @@ lay-spec =
     slice-write-out-2
     (λ c. search needs) (λ c. search needs)
     loop-again
-    same-length
+    (λ c. c .before .loop .inv .2 .long)
     returns)

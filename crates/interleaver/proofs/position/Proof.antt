@@ -8,8 +8,8 @@ use borrow.Author.Needs.{needs}
 use Rattle.links.specs.declared.Row.{Row}
 use Rattle.links.specs.working.Good.{goodRow, longestBlock}
 use Rattle.links.proofs.Facts.{sizes, block-is}
-use Rattle.interleaver.proofs.place.Statement.{statement}
-use Rattle.interleaver.proofs.place.Tie as tie
+use Rattle.interleaver.proofs.position.Statement.{statement}
+use Rattle.interleaver.proofs.position.Tie as tie
 
 module _ (row : Row) (good : T (goodRow row)) (t : ℕ) (inside : t < row .k1 / 2) where
   pairs : row .k1 / 2 * row .k2 ≤ longestBlock
@@ -39,8 +39,8 @@ add-result-2 c = let st = c .before .before in record { fits = omega (arith, cel
 mul-result-2 : tie.Need-mul-result-2
 mul-result-2 c = let st = c .before .before in record { fits = omega (arith, cell (st .args .row) (st .pre .0) (st .args .t) (st .pre .1) (st .args .p * st .args .j + 21 * st .args .m)) }
 
-pub place-spec : {M : Type 1} → statement M
-place-spec =
+pub position-spec : {M : Type 1} → statement M
+position-spec =
     tie.close
     (tie.spec
     (λ c. search needs)
