@@ -5,58 +5,13 @@
 //! `traced` behind the name prints each call before it is made. `crosscheck soak TABLES_DIR CALLS
 //! SEED` makes so many calls of each kind; `traced` behind it prints them too.
 
-mod archive;
-mod bits;
-mod blocks;
-mod both_ways;
-mod both_ways_blocks;
-mod both_ways_slots;
-mod channel_bits;
-mod check_blocks_reading;
-mod check_blocks_writing;
-mod check_coding;
-mod check_links;
-mod check_messages;
-mod check_outside;
-mod check_printer;
-mod check_readers;
-mod check_refusals;
-mod check_slots_reading;
-mod check_slots_refusals;
-mod check_slots_writing;
-mod check_tool;
-mod check_tool_use;
-mod check_words;
-mod check_worked_burst;
-mod crc;
-mod datagrams;
-mod encoder;
-mod guarded;
-mod images;
-mod interleaver;
-mod link_tables;
-mod links;
-mod messages;
-mod mixed_faults;
-mod ordered_faults;
+mod checks;
+mod harness;
 mod outside;
-mod program;
-mod random;
-mod readers;
-mod report;
-mod samples;
-mod scrambler;
 mod second;
-mod slots;
 mod soak;
-mod soak_requests;
-mod tables;
-mod tool;
-mod training;
-mod words;
-mod worked_burst;
 
-use report::Given;
+use harness::report::{self, Given};
 use std::{env, process::ExitCode};
 
 /// The first argument that asks for the soak in the place of the tests.
@@ -64,25 +19,7 @@ const SOAK: &str = "soak";
 
 fn main() -> ExitCode {
     let arguments: Vec<String> = env::args().skip(1).collect();
-    let tests = [
-        check_words::TESTS,
-        check_printer::TESTS,
-        check_links::TESTS,
-        check_coding::TESTS,
-        check_worked_burst::TESTS,
-        check_outside::TESTS,
-        check_readers::TESTS,
-        check_refusals::TESTS,
-        check_messages::TESTS,
-        check_blocks_writing::TESTS,
-        check_blocks_reading::TESTS,
-        check_slots_writing::TESTS,
-        check_slots_reading::TESTS,
-        check_slots_refusals::TESTS,
-        check_tool::TESTS,
-        check_tool_use::TESTS,
-    ]
-    .concat();
+    let tests = checks::all();
     let (given, chosen) = match arguments.as_slice() {
         [mode, tables, rest @ ..] if mode == SOAK => {
             return soak::run(tables, rest).unwrap_or_else(wrong_use);

@@ -1,0 +1,43 @@
+//! The checks: the named tests of the second implementation, of the archive and of the built programs.
+
+mod blocks_reading;
+mod blocks_writing;
+mod coding;
+mod links;
+mod messages;
+mod outside;
+mod printer;
+mod readers;
+mod refusals;
+mod slots_reading;
+mod slots_refusals;
+mod slots_writing;
+mod tool;
+mod tool_use;
+mod words;
+mod worked_burst;
+
+use crate::harness::report::NamedTest;
+
+/// All of them, in the order in which they run.
+pub fn all() -> Vec<NamedTest> {
+    [
+        words::TESTS,
+        printer::TESTS,
+        links::TESTS,
+        coding::TESTS,
+        worked_burst::TESTS,
+        outside::TESTS,
+        readers::TESTS,
+        refusals::TESTS,
+        messages::TESTS,
+        blocks_writing::TESTS,
+        blocks_reading::TESTS,
+        slots_writing::TESTS,
+        slots_reading::TESTS,
+        slots_refusals::TESTS,
+        tool::TESTS,
+        tool_use::TESTS,
+    ]
+    .concat()
+}

@@ -1,0 +1,291 @@
+//! The tests of the built command line tool: each command against the second implementation.
+
+use crate::harness::ordered_faults;
+use crate::harness::program::Run;
+use crate::harness::report::{named_tests, Given, NamedTest, Test};
+use crate::harness::samples::{burst_of, image_of, random_datagram, two_places, SLOT_SIZES};
+use crate::harness::tool::{done, hex_line, line, refused, refused_at, runs};
+use crate::second::bits::{bits, inverted};
+use crate::second::messages::{step, Step};
+use crate::second::slots::{HEAD, SLOT_LINKS, TRAINING};
+use crate::second::words::{Reading, Refusal};
+use crate::second::Second;
+
+pub const TESTS: &[NamedTest] = named_tests![
+    tool_prints_the_links,
+    tool_writes_words,
+    tool_reads_words,
+    tool_writes_blocks,
+    tool_reads_blocks,
+    tool_writes_slots,
+    tool_reads_slots,
+    tool_refuses_slots,
+    tool_walks_messages,
+    tool_steps_at_positions,
+];
+
+/// Numbers of no link and of no link word; the last ones end in the bits of link 5.
+const TOO_LARGE: [&str; 6] = [
+    "64",
+    "261",
+    "65541",
+    "4294967295",
+    "4294967301",
+    "18446744073709551621",
+];
+
+fn tool_prints_the_links(given: &Given, test: &mut Test) {
+    let second = Second::read(&given.tables);
+    let mut table = "link bytes  image  burst\n".to_string();
+    for link in second.links.all() {
+        let slot = SLOT_SIZES.iter().find(|size| size.0 == link.number);
+        let burst = slot.map_or("-".to_string(), |size| size.2.to_string());
+        let (bytes, image) = (link.bytes(), link.image_length());
+        table += &format!("{:4} {bytes:5} {image:6} {burst:>6}\n", link.number);
+    }
+    let expected = Run {
+        errors: String::new(),
+        ..done(table, String::new())
+    };
+    runs(given, test, "links", b"", expected);
+}
+
+fn tool_writes_words(given: &Given, test: &mut Test) {
+    let words = Second::read(&given.tables).words;
+    for number in 0..64 {
+        let expected = done(line(&bits(words.of(number))), "count=32".to_string());
+        runs(given, test, &format!("word {number}"), b"", expected);
+    }
+    for number in TOO_LARGE {
+        runs(given, test, &format!("word {number}"), b"", refused(1));
+    }
+}
+
+/// Every word with up to eight places wrong, and rows of wrong lengths and of other characters.
+fn tool_reads_words(given: &Given, test: &mut Test) {
+    let words = Second::read(&given.tables).words;
+    let mut random = test.random(601);
+    let mut rows: Vec<Vec<u8>> = (0..64)
+        .map(|number| {
+            let places = random.places(number % 9, 32);
+            inverted(&bits(words.of(number)), &places)
+        })
+        .collect();
+    let word = bits(words.of(5));
+    rows.extend([vec![], word[1..].to_vec(), [&word[..], &[0]].concat()]);
+    for other in [2, 208, 209, 255] {
+        let mut row = word.clone();
+        row[random.below(32)] = other;
+        rows.push(row);
+    }
+    for row in rows {
+        let expected = match words.read(&row) {
+            Ok(Reading { number, wrong }) => done(format!("{number}\n"), format!("wrong={wrong}")),
+            Err(number) => refused(number),
+        };
+        runs(given, test, "read-word", &line(&row), expected);
+    }
+}
+
+/// What a writing command is to show.
+fn written(expected: Result<Vec<u8>, Refusal>) -> Run {
+    match expected {
+        Ok(row) => done(line(&row), format!("count={}", row.len())),
+        Err(number) => refused(number),
+    }
+}
+
+/// On every link the empty datagram, a full one, a random one and one that is a byte too long, as
+/// bytes and as hexadecimal digits.
+fn tool_writes_blocks(given: &Given, test: &mut Test) {
+    let second = Second::read(&given.tables);
+    let mut random = test.random(602);
+    for link in second.links.all() {
+        let part = random.below(link.bytes());
+        for length in [0, part, link.bytes(), link.bytes() + 1] {
+            let datagram = random.bytes(length);
+            let expected = || written(second.write_block(link.number, &datagram, usize::MAX));
+            let command = format!("write {}", link.number);
+            runs(given, test, &command, &datagram, expected());
+            let digits = hex_line(&datagram);
+            let command = command + " -x";
+            runs(given, test, &command, digits.as_bytes(), expected());
+        }
+    }
+    for number in ["0", "4", "24"].into_iter().chain(TOO_LARGE) {
+        let command = format!("write {number}");
+        runs(given, test, &command, &[7; 6000], refused(1));
+    }
+}
+
+/// On every link an image with none, one and two wrong places, a place cut off, a non-bit.
+fn tool_reads_blocks(given: &Given, test: &mut Test) {
+    let second = Second::read(&given.tables);
+    let mut random = test.random(603);
+    for link in second.links.all() {
+        let image = image_of(link, &random_datagram(link, &mut random));
+        let one_wrong = inverted(&image, &random.places(1, image.len()));
+        let two_wrong = inverted(&image, &two_places(link, 1, &mut random));
+        let mut non_bit = image.clone();
+        non_bit[random.below(image.len())] = 3;
+        let short = image[1..].to_vec();
+        for row in [image, one_wrong, two_wrong, non_bit, short] {
+            let read = second.read_block(link.number, &row, usize::MAX);
+            let (bytes, digits) = match read {
+                Ok(read) => {
+                    let counts = format!("count={} wrong={}", link.bytes(), read.wrong);
+                    let digits = hex_line(&read.datagram);
+                    (done(read.datagram, counts.clone()), done(digits, counts))
+                }
+                Err(number) => (refused(number), refused(number)),
+            };
+            let command = format!("read {}", link.number);
+            runs(given, test, &command, &line(&row), bytes);
+            runs(given, test, &format!("{command} -x"), &line(&row), digits);
+        }
+    }
+    for number in TOO_LARGE {
+        runs(
+            given,
+            test,
+            &format!("read {number}"),
+            &line(&[0; 394]),
+            refused(1),
+        );
+    }
+}
+
+fn tool_writes_slots(given: &Given, test: &mut Test) {
+    let second = Second::read(&given.tables);
+    let mut random = test.random(604);
+    for (number, bytes, _) in SLOT_SIZES {
+        for length in [0, 1, bytes - 1, bytes, bytes + 1] {
+            let datagram = random.bytes(length);
+            let expected = written(second.write_slot(number, &datagram, usize::MAX));
+            runs(
+                given,
+                test,
+                &format!("write-slot {number}"),
+                &datagram,
+                expected,
+            );
+        }
+    }
+    for number in ["0", "4", "8", "33"].into_iter().chain(TOO_LARGE) {
+        runs(
+            given,
+            test,
+            &format!("write-slot {number}"),
+            b"",
+            refused(1),
+        );
+    }
+}
+
+/// What reading a slot burst is to show, with -x.
+fn slot_read(second: &Second, burst: &[u8]) -> Run {
+    match second.read_slot(burst, usize::MAX) {
+        Ok(read) => {
+            let (datagram, wrong) = (read.block.datagram, read.block.wrong);
+            let (link, word_wrong) = (read.link, read.word_wrong);
+            let counts = format!("count={} wrong={wrong}", datagram.len());
+            let counts = format!("{counts} link={link} word_wrong={word_wrong}");
+            done(hex_line(&datagram), counts)
+        }
+        Err(number) => refused(number),
+    }
+}
+
+/// Bursts with up to eight places of the word wrong, and with one or two of the block.
+fn tool_reads_slots(given: &Given, test: &mut Test) {
+    let second = Second::read(&given.tables);
+    let mut random = test.random(605);
+    for number in SLOT_LINKS {
+        let link = second.links.of(number);
+        for (in_word, in_block) in [(0, 0), (7, 0), (8, 0), (0, 1), (3, 1), (0, 2)] {
+            let burst = burst_of(&second, link, &random_datagram(link, &mut random));
+            let of_word = random.places(in_word, HEAD - TRAINING);
+            let of_block = random.places(in_block, link.image_length());
+            let of_word = of_word.iter().map(|place| TRAINING + place);
+            let places = of_word.chain(of_block.iter().map(|place| HEAD + place));
+            let burst = inverted(&burst, &places.collect::<Vec<_>>());
+            let expected = slot_read(&second, &burst);
+            runs(given, test, "read-slot -x", &line(&burst), expected);
+        }
+    }
+}
+
+/// Every refusal of the list of document 01 that a large enough buffer leaves.
+fn tool_refuses_slots(given: &Given, test: &mut Test) {
+    let second = Second::read(&given.tables);
+    for ((burst, _), _) in ordered_faults::reading_slots(&second) {
+        let expected = slot_read(&second, &burst);
+        runs(given, test, "read-slot -x", &line(&burst), expected);
+    }
+}
+
+/// What stepping through all of a datagram is to show.
+fn walked(datagram: &[u8]) -> Run {
+    let (mut lines, mut count, mut position) = (String::new(), 0, 0);
+    loop {
+        match step(datagram, position) {
+            Ok(Step::Message { start, length }) => {
+                lines += &format!("{start} {length}\n");
+                count += 1;
+                position = start + length;
+            }
+            Ok(Step::Finished) => return done(lines, format!("count={count} finished={position}")),
+            Err(number) => return refused_at(number, position),
+        }
+    }
+}
+
+/// P11 and P12, last spring's lie, and rows of random messages that end well or not.
+fn tool_walks_messages(given: &Given, test: &mut Test) {
+    let mut random = test.random(606);
+    let with_length = |length| vec![74, 0, length, 0, 0, 0, 1, 81];
+    let mut datagrams: Vec<Vec<u8>> = [7, 8, 9, 6].map(with_length).to_vec();
+    datagrams.extend([vec![], vec![81; 9], vec![0, 0, 1], vec![74, 0]]);
+    datagrams.push([&[93, 3, 132, 0, 0, 0, 1][..], &[0; 25]].concat());
+    for _ in 0..40 {
+        let mut datagram = Vec::new();
+        for _ in 0..random.below(9) {
+            let length = 7 + random.below(300);
+            datagram.extend([
+                82 + random.below(100) as u8,
+                (length / 256) as u8,
+                length as u8,
+            ]);
+            datagram.extend(random.bytes(length - 3));
+        }
+        datagram.extend(vec![81; random.below(4)]);
+        datagram.truncate(datagram.len() - random.below(3).min(datagram.len()));
+        datagrams.push(datagram);
+    }
+    for datagram in datagrams {
+        runs(given, test, "step", &datagram, walked(&datagram));
+        let digits = hex_line(&datagram);
+        runs(given, test, "step -x", digits.as_bytes(), walked(&datagram));
+    }
+}
+
+/// One step, at every position of P11's datagram and past its end.
+fn tool_steps_at_positions(given: &Given, test: &mut Test) {
+    let datagram = [74, 0, 7, 0, 0, 0, 1, 81];
+    for position in (0..12).chain([usize::MAX]) {
+        let expected = match step(&datagram, position) {
+            Ok(Step::Message { start, length }) => {
+                done(format!("{start} {length}\n"), "count=1".to_string())
+            }
+            Ok(Step::Finished) => done("", format!("count=0 finished={position}")),
+            Err(number) => refused_at(number, position),
+        };
+        runs(
+            given,
+            test,
+            &format!("step {position}"),
+            &datagram,
+            expected,
+        );
+    }
+}

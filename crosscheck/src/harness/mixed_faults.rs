@@ -1,0 +1,103 @@
+//! Requests to read a slot burst with every mix of faults, and the refusal of the one that document
+//! 01's order puts first ("Numbers a caller gets back").
+
+use crate::harness::ordered_faults::SlotRequest;
+use crate::harness::random::Random;
+use crate::harness::samples::{burst_of, random_datagram};
+use crate::second::bits::{bits, inverted};
+use crate::second::links::Link;
+use crate::second::slots::{HEAD, TRAINING};
+use crate::second::words::{Refusal, PLACES};
+use crate::second::Second;
+
+#[derive(Clone, Copy, PartialEq)]
+enum Fault {
+    HeadCutShort,
+    NonBitInHead,
+    WrongTraining,
+    WordFarFromAll,
+    WordOfNoSlot,
+    RestOfWrongLength,
+    BufferTooShort,
+    NonBitInRest,
+    TwoWrongInBlock,
+}
+
+use Fault::*;
+
+/// The faults and their refusals, in document 01's order.
+const IN_ORDER: [(Fault, Refusal); 9] = [
+    (HeadCutShort, 2),
+    (NonBitInHead, 4),
+    (WrongTraining, 5),
+    (WordFarFromAll, 6),
+    (WordOfNoSlot, 1),
+    (RestOfWrongLength, 2),
+    (BufferTooShort, 3),
+    (NonBitInRest, 4),
+    (TwoWrongInBlock, 7),
+];
+
+/// A request for every mix of the faults, at random places of a burst of this link.
+pub fn reading_slots(
+    second: &Second,
+    link: &Link,
+    random: &mut Random,
+) -> Vec<(SlotRequest, Refusal)> {
+    let mixes = (1..1 << IN_ORDER.len()).map(|mix: usize| {
+        let in_mix = (0..IN_ORDER.len()).filter(|n| mix >> n & 1 == 1);
+        let faults: Vec<(Fault, Refusal)> = in_mix.map(|n| IN_ORDER[n]).collect();
+        let (_, refusal) = faults[0];
+        let has = |fault| faults.iter().any(|&(one, _)| one == fault);
+        (request(second, link, has, random), refusal)
+    });
+    mixes.collect()
+}
+
+/// Bits are inverted first, while all are bits; the burst is cut or lengthened last.
+fn request(
+    second: &Second,
+    link: &Link,
+    has: impl Fn(Fault) -> bool,
+    random: &mut Random,
+) -> SlotRequest {
+    let mut burst = burst_of(second, link, &random_datagram(link, random));
+    if has(WordOfNoSlot) {
+        burst[TRAINING..HEAD].copy_from_slice(&bits(second.words.of(8 + random.below(56))));
+    }
+    let mut burst = inverted(&burst, &wrong_places(link, &has, random));
+    if has(NonBitInHead) {
+        burst[random.below(HEAD)] |= 2;
+    }
+    if has(NonBitInRest) {
+        burst[HEAD + random.below(link.image_length())] |= 2;
+    }
+    if has(RestOfWrongLength) {
+        let lengths = [0, 1, link.image_length() - 1, link.image_length() + 1];
+        burst.resize(HEAD + lengths[random.below(4)], 0);
+    }
+    if has(HeadCutShort) {
+        burst.truncate(random.below(HEAD));
+    }
+    let buffer = match has(BufferTooShort) {
+        true => random.below(link.bytes()),
+        false => link.bytes(),
+    };
+    (burst, buffer)
+}
+
+/// A word with eight wrong places is within seven of none: words differ in at least 16.
+fn wrong_places(link: &Link, has: &impl Fn(Fault) -> bool, random: &mut Random) -> Vec<usize> {
+    let parts = [
+        (WrongTraining, 1, 0, TRAINING),
+        (WordFarFromAll, 8, TRAINING, PLACES),
+        (TwoWrongInBlock, 2, HEAD, link.image_length()),
+    ];
+    let wrong = parts.into_iter().filter(|&(fault, ..)| has(fault));
+    wrong
+        .flat_map(|(_, count, start, length)| {
+            let places = random.places(count, length);
+            places.into_iter().map(move |place| start + place)
+        })
+        .collect()
+}

@@ -1,0 +1,206 @@
+//! The requests of the soak, one kind to a call: well-formed ones, damaged ones, and lies about
+//! links, lengths, bits and room.
+
+use crate::harness::both_ways::{read_word, step_message, write_word};
+use crate::harness::both_ways_blocks::{read_block, write_block};
+use crate::harness::both_ways_slots::{read_slot, write_slot};
+use crate::harness::ordered_faults::NOT_OFFERED;
+use crate::harness::random::Random;
+use crate::harness::samples::{burst_of, image_of, random_datagram};
+use crate::second::bits::bits;
+use crate::second::links::Link;
+use crate::second::messages;
+use crate::second::slots::{HEAD, SLOT_LINKS, TRAINING};
+use crate::second::words::PLACES;
+use crate::soak::{Kind, Soak};
+
+pub const KINDS: [Kind; 7] = [
+    ("write_word", write_a_word),
+    ("read_word", read_a_word),
+    ("write_block", write_a_block),
+    ("read_block", read_a_block),
+    ("write_slot", write_a_slot),
+    ("read_slot", read_a_slot),
+    ("step_message", step_once),
+];
+
+/// True once in so many times.
+fn once_in(times: usize, random: &mut Random) -> bool {
+    random.below(times) == 0
+}
+
+/// Often just enough or a little more, else anything below.
+fn room_for(length: usize, random: &mut Random) -> usize {
+    match random.below(6) {
+        0 => random.below(length + 1),
+        _ => length + random.below(3),
+    }
+}
+
+/// A number that stands for no link, or for one only if it is cut short.
+fn lying_number(random: &mut Random) -> u32 {
+    match random.below(2) {
+        0 => NOT_OFFERED[random.below(NOT_OFFERED.len())],
+        _ => random.below(1 << 32) as u32,
+    }
+}
+
+/// Inverts up to this many bits anywhere, most often one or none.
+fn damage(row: &mut [u8], most: usize, random: &mut Random) {
+    let count = match random.below(3) {
+        0 => random.below(most + 1),
+        few => few - 1,
+    };
+    for _ in 0..count {
+        let place = random.below(row.len());
+        row[place] ^= 1;
+    }
+}
+
+/// Now and then puts a byte that is no bit into the row, or cuts or lengthens it.
+fn lie(mut row: Vec<u8>, random: &mut Random) -> Vec<u8> {
+    if once_in(10, random) && !row.is_empty() {
+        let place = random.below(row.len());
+        row[place] = random.below(256) as u8;
+    }
+    if once_in(10, random) {
+        let length = random.below(row.len() + 40);
+        row.resize(length, 1);
+    }
+    row
+}
+
+/// A datagram that the link holds, now and then one that is longer.
+fn some_datagram(link: &Link, random: &mut Random) -> Vec<u8> {
+    match random.below(8) {
+        0 => {
+            let length = link.bytes() + random.below(40);
+            random.bytes(length)
+        }
+        _ => random_datagram(link, random),
+    }
+}
+
+fn write_a_word(soak: &mut Soak) {
+    let random = &mut soak.random;
+    let number = match random.below(4) {
+        0 => lying_number(random),
+        _ => random.below(70) as u32,
+    };
+    let length = room_for(PLACES, random);
+    let expected = soak.second.words.write(number, length);
+    write_word(&mut soak.test, &mut soak.room, number, length, expected);
+}
+
+fn read_a_word(soak: &mut Soak) {
+    let random = &mut soak.random;
+    let mut row = match random.below(4) {
+        0 => random.bits(PLACES),
+        _ => bits(soak.second.words.of(random.below(64))),
+    };
+    damage(&mut row, 12, random);
+    let row = lie(row, random);
+    let expected = soak.second.words.read(&row);
+    read_word(&mut soak.test, &mut soak.room, &row, expected);
+}
+
+fn write_a_block(soak: &mut Soak) {
+    let (second, random) = (soak.second, &mut soak.random);
+    let link = &second.links.all()[random.below(second.links.all().len())];
+    let number = match random.below(8) {
+        0 => lying_number(random),
+        _ => link.number,
+    };
+    let datagram = some_datagram(link, random);
+    let length = room_for(link.image_length(), random);
+    let expected = second.write_block(number, &datagram, length);
+    let (test, rooms) = (&mut soak.test, &mut soak.rooms);
+    write_block(test, rooms, number, &datagram, length, expected);
+}
+
+fn read_a_block(soak: &mut Soak) {
+    let (second, random) = (soak.second, &mut soak.random);
+    let link = &second.links.all()[random.below(second.links.all().len())];
+    let number = match random.below(16) {
+        0 => lying_number(random),
+        _ => link.number,
+    };
+    let mut row = match random.below(8) {
+        0 => random.bits(link.image_length()),
+        _ => image_of(link, &random_datagram(link, random)),
+    };
+    damage(&mut row, 5, random);
+    let row = lie(row, random);
+    let length = room_for(link.bytes(), random);
+    let expected = second.read_block(number, &row, length);
+    let (test, rooms) = (&mut soak.test, &mut soak.rooms);
+    read_block(test, rooms, number, &row, length, expected);
+}
+
+fn write_a_slot(soak: &mut Soak) {
+    let (second, random) = (soak.second, &mut soak.random);
+    let link = second.links.of(SLOT_LINKS[random.below(3)]);
+    let number = match random.below(8) {
+        0 => lying_number(random),
+        1 => 8 + random.below(26) as u32,
+        _ => link.number,
+    };
+    let datagram = some_datagram(link, random);
+    let length = room_for(HEAD + link.image_length(), random);
+    let expected = second.write_slot(number, &datagram, length);
+    let (test, rooms) = (&mut soak.test, &mut soak.rooms);
+    write_slot(test, rooms, number, &datagram, length, expected);
+}
+
+/// Training, word and block are damaged each on its own; the word may be that of another number.
+fn read_a_slot(soak: &mut Soak) {
+    let (second, random) = (soak.second, &mut soak.random);
+    let link = second.links.of(SLOT_LINKS[random.below(3)]);
+    let mut row = burst_of(second, link, &random_datagram(link, random));
+    if once_in(10, random) {
+        row[TRAINING..HEAD].copy_from_slice(&bits(second.words.of(random.below(64))));
+    }
+    if once_in(10, random) {
+        damage(&mut row[..TRAINING], 2, random);
+    }
+    damage(&mut row[TRAINING..HEAD], 10, random);
+    damage(&mut row[HEAD..], 5, random);
+    let row = lie(row, random);
+    let length = room_for(link.bytes(), random);
+    let expected = second.read_slot(&row, length);
+    read_slot(&mut soak.test, &mut soak.rooms, &row, length, expected);
+}
+
+/// Messages one behind the other, some of which lie about their length, with fill behind them that
+/// may hold another byte; stepped into where a message begins, or anywhere, or past the end.
+fn step_once(soak: &mut Soak) {
+    let random = &mut soak.random;
+    let (mut datagram, mut starts) = (Vec::new(), vec![0]);
+    for _ in 0..random.below(5) {
+        let length = 7 + random.below(300);
+        let told = match random.below(6) {
+            0 => random.below(1 << 16),
+            1 => random.below(9),
+            _ => length,
+        };
+        datagram.extend([random.below(256) as u8, (told / 256) as u8, told as u8]);
+        datagram.extend(random.bytes(length - 3));
+        starts.push(datagram.len());
+    }
+    let fill = (0..random.below(20)).map(|_| [0, 81][random.below(2)]);
+    datagram.extend(fill.collect::<Vec<u8>>());
+    let datagram = lie(datagram, random);
+    let position = match random.below(8) {
+        0 => random.below(datagram.len() + 3),
+        1 => usize::MAX - random.below(3),
+        _ => starts[random.below(starts.len())],
+    };
+    let expected = messages::step(&datagram, position);
+    step_message(
+        &mut soak.test,
+        &mut soak.room,
+        &datagram,
+        position,
+        expected,
+    );
+}
