@@ -1,11 +1,11 @@
 //! The tests of reading blocks: the archive against the worked slot burst, against what was
 //! written, and against the second implementation.
 
-use crate::harness::both_ways::Rooms;
-use crate::harness::both_ways_blocks::read_block;
+use crate::harness::caller::Caller;
 use crate::harness::guarded::ROOM;
 use crate::harness::ordered_faults::{self, NOT_OFFERED};
 use crate::harness::report::{named_tests, Given, NamedTest, Test};
+use crate::harness::requests::blocks::ReadBlock;
 use crate::harness::samples::{
     found, image_of, other_places, random_datagram, rows_with_bits_over, two_places,
 };
@@ -32,45 +32,32 @@ pub const TESTS: &[NamedTest] = named_tests![
     archive_reads_blocks_on_read_only_pages,
 ];
 
-/// One reading call against the second implementation.
-fn compare(
-    test: &mut Test,
-    rooms: &mut Rooms,
-    second: &Second,
-    link: u32,
-    row: &[u8],
-    buffer: usize,
-) {
-    let expected = second.read_block(link, row, buffer);
-    read_block(test, rooms, link, row, buffer, expected);
-}
-
 /// As it is printed, and with each of its places inverted.
 fn archive_reads_the_worked_block(given: &Given, test: &mut Test) {
     let second = Second::read(&given.tables);
     let link = second.links.of(5);
-    let mut rooms = Rooms::new();
+    let mut caller = Caller::new(test);
     let datagram = worked_burst::datagram();
     let row = bits(&WorkedBurst::read(&given.tables).bits()[HEAD..]);
-    read_block(test, &mut rooms, 5, &row, 32, found(link, &datagram, 0));
+    caller.expect(ReadBlock(5, &row, 32), found(link, &datagram, 0));
     for place in 0..row.len() {
         let row = inverted(&row, &[place]);
-        read_block(test, &mut rooms, 5, &row, 32, found(link, &datagram, 1));
+        caller.expect(ReadBlock(5, &row, 32), found(link, &datagram, 1));
     }
 }
 
 /// Random datagrams, all zeros and all ones, the empty one too.
 fn archive_reads_written_blocks(given: &Given, test: &mut Test) {
     let second = Second::read(&given.tables);
-    let mut rooms = Rooms::new();
     let mut random = test.random(201);
+    let mut caller = Caller::new(test);
     for link in second.links.all() {
         let mut datagrams = vec![vec![], vec![0; link.bytes()], vec![255; link.bytes()]];
         datagrams.extend((0..460).map(|_| random_datagram(link, &mut random)));
         for datagram in datagrams {
             let row = image_of(link, &datagram);
             let expected = found(link, &datagram, 0);
-            read_block(test, &mut rooms, link.number, &row, link.bytes(), expected);
+            caller.expect(ReadBlock(link.number, &row, link.bytes()), expected);
         }
     }
 }
@@ -79,8 +66,8 @@ fn archive_reads_written_blocks(given: &Given, test: &mut Test) {
 /// and the last hundred.
 fn archive_mends_every_wrong_bit(given: &Given, test: &mut Test) {
     let second = Second::read(&given.tables);
-    let mut rooms = Rooms::new();
     let mut random = test.random(202);
+    let mut caller = Caller::new(test);
     for link in second.links.all() {
         let n = link.image_length();
         let blocks = match link.number {
@@ -97,7 +84,7 @@ fn archive_mends_every_wrong_bit(given: &Given, test: &mut Test) {
             for place in places {
                 let row = inverted(&written, &[place]);
                 let expected = found(link, &datagram, 1);
-                read_block(test, &mut rooms, link.number, &row, link.bytes(), expected);
+                caller.expect(ReadBlock(link.number, &row, link.bytes()), expected);
             }
         }
     }
@@ -106,13 +93,13 @@ fn archive_mends_every_wrong_bit(given: &Given, test: &mut Test) {
 fn archive_reads_every_two_wrong_on_link_20(given: &Given, test: &mut Test) {
     let second = Second::read(&given.tables);
     let link = second.links.of(20);
-    let mut rooms = Rooms::new();
     let mut random = test.random(203);
+    let mut caller = Caller::new(test);
     let written = image_of(link, &random_datagram(link, &mut random));
     for one in 0..written.len() {
         for other in 0..one {
             let row = inverted(&written, &[one, other]);
-            compare(test, &mut rooms, &second, 20, &row, link.bytes());
+            caller.compare(&second, ReadBlock(20, &row, link.bytes()));
         }
     }
 }
@@ -120,26 +107,26 @@ fn archive_reads_every_two_wrong_on_link_20(given: &Given, test: &mut Test) {
 /// Pairs with none, one or both of the places where bits of the block stand.
 fn archive_reads_two_wrong(given: &Given, test: &mut Test) {
     let second = Second::read(&given.tables);
-    let mut rooms = Rooms::new();
     let mut random = test.random(204);
+    let mut caller = Caller::new(test);
     for link in second.links.all() {
         for of_block in [0, 1, 2].repeat(100) {
             let written = image_of(link, &random_datagram(link, &mut random));
             let row = inverted(&written, &two_places(link, of_block, &mut random));
-            compare(test, &mut rooms, &second, link.number, &row, link.bytes());
+            caller.compare(&second, ReadBlock(link.number, &row, link.bytes()));
         }
     }
 }
 
 fn archive_reads_three_to_ten_wrong(given: &Given, test: &mut Test) {
     let second = Second::read(&given.tables);
-    let mut rooms = Rooms::new();
     let mut random = test.random(205);
+    let mut caller = Caller::new(test);
     for link in second.links.all() {
         for count in (3..=10).cycle().take(40) {
             let written = image_of(link, &random_datagram(link, &mut random));
             let row = inverted(&written, &random.places(count, written.len()));
-            compare(test, &mut rooms, &second, link.number, &row, link.bytes());
+            caller.compare(&second, ReadBlock(link.number, &row, link.bytes()));
         }
     }
 }
@@ -148,8 +135,8 @@ fn archive_reads_three_to_ten_wrong(given: &Given, test: &mut Test) {
 /// or all wrong, or wrong in two places.
 fn archive_compares_the_bits_behind_the_check(given: &Given, test: &mut Test) {
     let second = Second::read(&given.tables);
-    let mut rooms = Rooms::new();
     let mut random = test.random(206);
+    let mut caller = Caller::new(test);
     for link in second.links.all() {
         let others = other_places(link);
         for wrong_of_block in [0, 1].repeat(3) {
@@ -162,7 +149,7 @@ fn archive_compares_the_bits_behind_the_check(given: &Given, test: &mut Test) {
             others.iter().for_each(|&n| mixed[n] = stranger[n]);
             let two = inverted(&sent, &random.chosen(2, &others));
             for row in [mixed, inverted(&sent, &others), two] {
-                compare(test, &mut rooms, &second, link.number, &row, link.bytes());
+                caller.compare(&second, ReadBlock(link.number, &row, link.bytes()));
             }
         }
     }
@@ -170,32 +157,32 @@ fn archive_compares_the_bits_behind_the_check(given: &Given, test: &mut Test) {
 
 fn archive_reads_random_bits(given: &Given, test: &mut Test) {
     let second = Second::read(&given.tables);
-    let mut rooms = Rooms::new();
     let mut random = test.random(207);
+    let mut caller = Caller::new(test);
     for link in second.links.all() {
         let n = link.image_length();
         let mut rows = vec![vec![0; n], vec![1; n]];
         rows.extend((0..60).map(|_| random.bits(n)));
         for row in rows {
-            compare(test, &mut rooms, &second, link.number, &row, link.bytes());
+            caller.compare(&second, ReadBlock(link.number, &row, link.bytes()));
         }
     }
 }
 
 fn archive_keeps_the_bits_over_zero(given: &Given, test: &mut Test) {
     let second = Second::read(&given.tables);
-    let mut rooms = Rooms::new();
     let mut random = test.random(208);
+    let mut caller = Caller::new(test);
     for (row, expected) in (0..10).flat_map(|_| rows_with_bits_over(&second, &mut random)) {
-        read_block(test, &mut rooms, 12, &row, 117, expected);
+        caller.expect(ReadBlock(12, &row, 117), expected);
     }
 }
 
 /// In every place on links 5 and 20, in the first, the last and random places on the others.
 fn archive_refuses_non_bits_in_blocks(given: &Given, test: &mut Test) {
     let second = Second::read(&given.tables);
-    let mut rooms = Rooms::new();
     let mut random = test.random(209);
+    let mut caller = Caller::new(test);
     for link in second.links.all() {
         let n = link.image_length();
         let written = image_of(link, &random_datagram(link, &mut random));
@@ -207,7 +194,7 @@ fn archive_refuses_non_bits_in_blocks(given: &Given, test: &mut Test) {
             for non_bit in [2, 3, 48, 49, 128, 129, 254, 255] {
                 let mut row = written.clone();
                 row[place] = non_bit;
-                read_block(test, &mut rooms, link.number, &row, link.bytes(), Err(4));
+                caller.expect(ReadBlock(link.number, &row, link.bytes()), Err(4));
             }
         }
     }
@@ -217,8 +204,8 @@ fn archive_refuses_non_bits_in_blocks(given: &Given, test: &mut Test) {
 /// bits behind it.
 fn archive_refuses_lengths_of_blocks(given: &Given, test: &mut Test) {
     let second = Second::read(&given.tables);
-    let mut rooms = Rooms::new();
     let mut random = test.random(210);
+    let mut caller = Caller::new(test);
     for link in second.links.all() {
         let n = link.image_length();
         let written = image_of(link, &random_datagram(link, &mut random));
@@ -242,15 +229,15 @@ fn archive_refuses_lengths_of_blocks(given: &Given, test: &mut Test) {
                 true => second.read_block(link.number, &row, link.bytes()),
                 false => Err(2),
             };
-            read_block(test, &mut rooms, link.number, &row, link.bytes(), expected);
+            caller.expect(ReadBlock(link.number, &row, link.bytes()), expected);
         }
     }
 }
 
 fn archive_reads_blocks_into_any_buffer(given: &Given, test: &mut Test) {
     let second = Second::read(&given.tables);
-    let mut rooms = Rooms::new();
     let mut random = test.random(211);
+    let mut caller = Caller::new(test);
     for link in second.links.all() {
         let bytes = link.bytes();
         let near = [0, 1, bytes / 2, bytes - 1, bytes, bytes + 1, bytes + 7];
@@ -259,7 +246,7 @@ fn archive_reads_blocks_into_any_buffer(given: &Given, test: &mut Test) {
             let one_wrong = inverted(&written, &random.places(1, written.len()));
             let two_wrong = inverted(&written, &random.places(2, written.len()));
             for row in [written, one_wrong, two_wrong] {
-                compare(test, &mut rooms, &second, link.number, &row, buffer);
+                caller.compare(&second, ReadBlock(link.number, &row, buffer));
             }
         }
     }
@@ -269,44 +256,44 @@ fn archive_reads_blocks_into_any_buffer(given: &Given, test: &mut Test) {
 /// links 5 and 20 and of the link whose bits they end in.
 fn archive_reads_blocks_of_offered_links(given: &Given, test: &mut Test) {
     let second = Second::read(&given.tables);
-    let mut rooms = Rooms::new();
+    let mut caller = Caller::new(test);
     let images = [5, 20].map(|number| image_of(second.links.of(number), &[1, 2, 3]));
     for number in (0..=70).chain(NOT_OFFERED) {
         for row in &images {
-            compare(test, &mut rooms, &second, number, row, ROOM);
+            caller.compare(&second, ReadBlock(number, row, ROOM));
         }
     }
     for link in second.links.all() {
         let row = image_of(link, &[1, 2, 3]);
         for more in [64, 128, 256, 65_536, 1 << 31] {
             let number = more + link.number;
-            read_block(test, &mut rooms, number, &row, link.bytes(), Err(1));
+            caller.expect(ReadBlock(number, &row, link.bytes()), Err(1));
         }
     }
 }
 
 fn archive_orders_refusals_to_read_blocks(given: &Given, test: &mut Test) {
     let second = Second::read(&given.tables);
-    let mut rooms = Rooms::new();
+    let mut caller = Caller::new(test);
     for ((link, row, buffer), refusal) in ordered_faults::reading_blocks(&second) {
-        read_block(test, &mut rooms, link, &row, buffer, Err(refusal));
+        caller.expect(ReadBlock(link, &row, buffer), Err(refusal));
     }
 }
 
 fn archive_reads_blocks_on_read_only_pages(given: &Given, test: &mut Test) {
     let second = Second::read(&given.tables);
-    let mut rooms = Rooms::with_read_only_input();
     let mut random = test.random(212);
+    let mut caller = Caller::with_read_only_input(test);
     for link in second.links.all() {
         for count in 0..=2 {
             let written = image_of(link, &random_datagram(link, &mut random));
             let row = inverted(&written, &random.places(count, written.len()));
             for buffer in [0, link.bytes()] {
-                compare(test, &mut rooms, &second, link.number, &row, buffer);
-                compare(test, &mut rooms, &second, link.number, &row[1..], buffer);
+                caller.compare(&second, ReadBlock(link.number, &row, buffer));
+                caller.compare(&second, ReadBlock(link.number, &row[1..], buffer));
             }
             let non_bit = [&row[1..], &[2]].concat();
-            compare(test, &mut rooms, &second, link.number, &non_bit, ROOM);
+            caller.compare(&second, ReadBlock(link.number, &non_bit, ROOM));
         }
     }
 }

@@ -1,12 +1,12 @@
 //! The tests of writing blocks: the archive against the worked slot burst and the second
 //! implementation.
 
-use crate::harness::both_ways::Rooms;
-use crate::harness::both_ways_blocks::write_block;
+use crate::harness::caller::Caller;
 use crate::harness::guarded::ROOM;
 use crate::harness::ordered_faults::{self, NOT_OFFERED};
 use crate::harness::random::Random;
 use crate::harness::report::{named_tests, Given, NamedTest, Test};
+use crate::harness::requests::blocks::WriteBlock;
 use crate::harness::samples::random_datagram;
 use crate::outside::worked_burst::{self, WorkedBurst};
 use crate::second::bits::bits;
@@ -29,34 +29,21 @@ pub const TESTS: &[NamedTest] = named_tests![
 /// The links on which a datagram of every length is written.
 const EVERY_LENGTH: [u32; 5] = [5, 8, 12, 20, 32];
 
-/// One writing call against the second implementation.
-fn compare(
-    test: &mut Test,
-    rooms: &mut Rooms,
-    second: &Second,
-    link: u32,
-    datagram: &[u8],
-    buffer: usize,
-) {
-    let expected = second.write_block(link, datagram, buffer);
-    write_block(test, rooms, link, datagram, buffer, expected);
-}
-
 /// With and without the twenty zero bytes that the fill puts there.
 fn archive_writes_the_worked_block(given: &Given, test: &mut Test) {
-    let mut rooms = Rooms::new();
+    let mut caller = Caller::new(test);
     let block = bits(&WorkedBurst::read(&given.tables).bits()[HEAD..]);
     for datagram in [worked_burst::datagram(), worked_burst::DATAGRAM.to_vec()] {
         let expected = Ok(block.clone());
-        write_block(test, &mut rooms, 5, &datagram, 394, expected);
+        caller.expect(WriteBlock(5, &datagram, 394), expected);
     }
 }
 
 /// Random bytes: every length on some links, about fifty on the others, and one byte too many.
 fn archive_writes_blocks_of_all_lengths(given: &Given, test: &mut Test) {
     let second = Second::read(&given.tables);
-    let mut rooms = Rooms::new();
     let mut random = test.random(101);
+    let mut caller = Caller::new(test);
     for link in second.links.all() {
         let mut lengths = match EVERY_LENGTH.contains(&link.number) {
             true => (0..=link.bytes()).collect(),
@@ -66,7 +53,7 @@ fn archive_writes_blocks_of_all_lengths(given: &Given, test: &mut Test) {
         for length in lengths {
             let datagram = random.bytes(length);
             let buffer = link.image_length();
-            compare(test, &mut rooms, &second, link.number, &datagram, buffer);
+            caller.compare(&second, WriteBlock(link.number, &datagram, buffer));
         }
     }
 }
@@ -80,13 +67,13 @@ fn some_lengths(link: &Link, random: &mut Random) -> Vec<usize> {
 /// All zeros, all ones and other equal bytes, in full datagrams and in shorter ones.
 fn archive_writes_blocks_of_equal_bytes(given: &Given, test: &mut Test) {
     let second = Second::read(&given.tables);
-    let mut rooms = Rooms::new();
+    let mut caller = Caller::new(test);
     for link in second.links.all() {
         for byte in [0, 255, 1, 128, 85] {
             for length in [link.bytes(), link.bytes() / 2, 1] {
                 let buffer = link.image_length();
                 let datagram = vec![byte; length];
-                compare(test, &mut rooms, &second, link.number, &datagram, buffer);
+                caller.compare(&second, WriteBlock(link.number, &datagram, buffer));
             }
         }
     }
@@ -95,8 +82,8 @@ fn archive_writes_blocks_of_equal_bytes(given: &Given, test: &mut Test) {
 /// Datagrams with a single bit set: every bit on links of up to 128 bytes, 200 bits on the others.
 fn archive_writes_blocks_of_single_ones(given: &Given, test: &mut Test) {
     let second = Second::read(&given.tables);
-    let mut rooms = Rooms::new();
     let mut random = test.random(102);
+    let mut caller = Caller::new(test);
     for link in second.links.all() {
         let bits = 8 * link.bytes();
         let set = match link.bytes() {
@@ -107,20 +94,20 @@ fn archive_writes_blocks_of_single_ones(given: &Given, test: &mut Test) {
             let mut datagram = vec![0; link.bytes()];
             datagram[bit / 8] = 128 >> (bit % 8);
             let buffer = link.image_length();
-            compare(test, &mut rooms, &second, link.number, &datagram, buffer);
+            caller.compare(&second, WriteBlock(link.number, &datagram, buffer));
         }
     }
 }
 
 fn archive_writes_blocks_into_any_buffer(given: &Given, test: &mut Test) {
     let second = Second::read(&given.tables);
-    let mut rooms = Rooms::new();
     let mut random = test.random(103);
+    let mut caller = Caller::new(test);
     for link in second.links.all() {
         let n = link.image_length();
         for buffer in [0, 1, n / 2, n - 8, n - 1, n, n + 1, n + 7, n + 1000, ROOM] {
             let datagram = random_datagram(link, &mut random);
-            compare(test, &mut rooms, &second, link.number, &datagram, buffer);
+            caller.compare(&second, WriteBlock(link.number, &datagram, buffer));
         }
     }
 }
@@ -128,14 +115,14 @@ fn archive_writes_blocks_into_any_buffer(given: &Given, test: &mut Test) {
 /// Numbers 0 to 70 and larger ones that end in the bits of an offered link.
 fn archive_writes_blocks_of_offered_links(given: &Given, test: &mut Test) {
     let second = Second::read(&given.tables);
-    let mut rooms = Rooms::new();
     let mut random = test.random(104);
+    let mut caller = Caller::new(test);
     let offered = second.links.all().iter().map(|link| link.number);
     let ending_alike = offered.flat_map(|n| [64, 128, 256, 65_536, 1 << 31].map(|more| more + n));
     for number in (0..=70).chain(NOT_OFFERED).chain(ending_alike) {
         for length in [0, 8] {
             let datagram = random.bytes(length);
-            compare(test, &mut rooms, &second, number, &datagram, ROOM);
+            caller.compare(&second, WriteBlock(number, &datagram, ROOM));
         }
     }
 }
@@ -143,39 +130,32 @@ fn archive_writes_blocks_of_offered_links(given: &Given, test: &mut Test) {
 /// Also by as many bytes as a narrow count forgets.
 fn archive_refuses_long_datagrams(given: &Given, test: &mut Test) {
     let second = Second::read(&given.tables);
-    let mut rooms = Rooms::new();
+    let mut caller = Caller::new(test);
     for link in second.links.all() {
         for more in [1, 2, 8, 64, 256, 512, 1024, 8192] {
             let datagram = vec![0; link.bytes() + more];
-            write_block(test, &mut rooms, link.number, &datagram, ROOM, Err(2));
+            caller.expect(WriteBlock(link.number, &datagram, ROOM), Err(2));
         }
-        write_block(test, &mut rooms, link.number, &[0; ROOM], ROOM, Err(2));
+        caller.expect(WriteBlock(link.number, &[0; ROOM], ROOM), Err(2));
     }
 }
 
 fn archive_orders_refusals_to_write_blocks(_: &Given, test: &mut Test) {
-    let mut rooms = Rooms::new();
+    let mut caller = Caller::new(test);
     for ((link, bytes, buffer), refusal) in ordered_faults::writing_blocks() {
-        write_block(
-            test,
-            &mut rooms,
-            link,
-            &vec![1; bytes],
-            buffer,
-            Err(refusal),
-        );
+        caller.expect(WriteBlock(link, &vec![1; bytes], buffer), Err(refusal));
     }
 }
 
 fn archive_writes_blocks_from_read_only_pages(given: &Given, test: &mut Test) {
     let second = Second::read(&given.tables);
-    let mut rooms = Rooms::with_read_only_input();
     let mut random = test.random(105);
+    let mut caller = Caller::with_read_only_input(test);
     for link in second.links.all() {
         for length in [0, 1, link.bytes(), link.bytes() + 1] {
             let datagram = random.bytes(length);
             for buffer in [0, link.image_length() - 1, link.image_length()] {
-                compare(test, &mut rooms, &second, link.number, &datagram, buffer);
+                caller.compare(&second, WriteBlock(link.number, &datagram, buffer));
             }
         }
     }

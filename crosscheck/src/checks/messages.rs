@@ -1,12 +1,14 @@
 //! The tests of steps through the messages of a datagram: the second implementation against
 //! document 01's cases, and the archive against the second implementation.
 
-use crate::harness::both_ways::step_message;
-use crate::harness::guarded::{Guarded, ROOM};
+use crate::harness::caller::Caller;
+use crate::harness::guarded::ROOM;
 use crate::harness::random::Random;
 use crate::harness::report::{named_tests, Given, NamedTest, Test};
+use crate::harness::requests::messages::StepMessage;
 use crate::second::messages::{step, Step};
 use crate::second::words::Refusal;
+use crate::second::Second;
 
 pub const TESTS: &[NamedTest] = named_tests![
     second_steps_hold_p11_and_p12,
@@ -86,23 +88,17 @@ fn second_steps_or_refuses(_: &Given, test: &mut Test) {
 }
 
 fn archive_steps_hold_p11_and_p12(_: &Given, test: &mut Test) {
-    let mut room = Guarded::new();
+    let mut caller = Caller::new(test);
     for (datagram, position, answer) in p11_and_p12() {
-        step_message(test, &mut room, &datagram, position, answer);
+        caller.expect(StepMessage(&datagram, position), answer);
     }
 }
 
 fn archive_steps_or_refuses(_: &Given, test: &mut Test) {
-    let mut room = Guarded::new();
+    let mut caller = Caller::new(test);
     for (datagram, position, answer) in typed_cases() {
-        step_message(test, &mut room, &datagram, position, answer);
+        caller.expect(StepMessage(&datagram, position), answer);
     }
-}
-
-/// One step against the second implementation.
-fn compare(test: &mut Test, room: &mut Guarded, datagram: &[u8], position: usize) {
-    let expected = step(datagram, position);
-    step_message(test, room, datagram, position, expected);
 }
 
 /// Far past the end of any datagram; the last three with a place in a datagram in their low bits.
@@ -118,9 +114,9 @@ const FAR: [usize; 8] = [
 ];
 
 /// A step at every position from 0 to one past the end, and at far ones.
-fn compare_at_all_positions(test: &mut Test, room: &mut Guarded, datagram: &[u8]) {
+fn compare_at_all_positions(caller: &mut Caller, second: &Second, datagram: &[u8]) {
     for position in (0..=datagram.len() + 1).chain(FAR) {
-        compare(test, room, datagram, position);
+        caller.compare(second, StepMessage(datagram, position));
     }
 }
 
@@ -133,20 +129,22 @@ fn all_datagrams(length: u32, bytes: &[u8]) -> impl Iterator<Item = Vec<u8>> + '
     })
 }
 
-fn archive_steps_in_all_datagrams_of_0_7_8_81(_: &Given, test: &mut Test) {
-    let mut room = Guarded::new();
+fn archive_steps_in_all_datagrams_of_0_7_8_81(given: &Given, test: &mut Test) {
+    let second = Second::read(&given.tables);
+    let mut caller = Caller::new(test);
     for length in 0..=8 {
         for datagram in all_datagrams(length, &[0, 7, 8, 81]) {
-            compare_at_all_positions(test, &mut room, &datagram);
+            compare_at_all_positions(&mut caller, &second, &datagram);
         }
     }
 }
 
-fn archive_steps_in_all_datagrams_of_eight_bytes(_: &Given, test: &mut Test) {
-    let mut room = Guarded::new();
+fn archive_steps_in_all_datagrams_of_eight_bytes(given: &Given, test: &mut Test) {
+    let second = Second::read(&given.tables);
+    let mut caller = Caller::new(test);
     for length in 0..=4 {
         for datagram in all_datagrams(length, &[0, 1, 6, 7, 8, 74, 81, 255]) {
-            compare_at_all_positions(test, &mut room, &datagram);
+            compare_at_all_positions(&mut caller, &second, &datagram);
         }
     }
 }
@@ -263,10 +261,10 @@ fn random_datagram(random: &mut Random) -> Vec<u8> {
 }
 
 /// Walks from 0, each step where the message before ends, until it is finished or refused.
-fn walk(test: &mut Test, room: &mut Guarded, datagram: &[u8]) {
+fn walk(caller: &mut Caller, second: &Second, datagram: &[u8]) {
     let mut position = 0;
     loop {
-        compare(test, room, datagram, position);
+        caller.compare(second, StepMessage(datagram, position));
         match step(datagram, position) {
             Ok(Step::Message { start, length }) => position = start + length,
             Ok(Step::Finished) | Err(_) => return,
@@ -274,66 +272,69 @@ fn walk(test: &mut Test, room: &mut Guarded, datagram: &[u8]) {
     }
 }
 
-fn archive_steps_in_random_and_lying_datagrams(_: &Given, test: &mut Test) {
-    let mut room = Guarded::new();
+fn archive_steps_in_random_and_lying_datagrams(given: &Given, test: &mut Test) {
+    let second = Second::read(&given.tables);
     let mut random = test.random(900);
+    let mut caller = Caller::new(test);
     for _ in 0..200_000 {
         let datagram = random_datagram(&mut random);
-        walk(test, &mut room, &datagram);
+        walk(&mut caller, &second, &datagram);
         for _ in 0..3 {
             let position = random.below(datagram.len() + 3);
-            compare(test, &mut room, &datagram, position);
+            caller.compare(&second, StepMessage(&datagram, position));
         }
         let position = FAR[random.below(FAR.len())];
-        compare(test, &mut room, &datagram, position);
+        caller.compare(&second, StepMessage(&datagram, position));
     }
 }
 
 /// A datagram of link 5, 32 bytes, whose message declares 900; of every type that is not fill.
 fn archive_refuses_the_lie_of_900_bytes(_: &Given, test: &mut Test) {
-    let mut room = Guarded::new();
     let mut random = test.random(32);
+    let mut caller = Caller::new(test);
     for kind in (1..=255).filter(|&kind| kind != 81) {
         let mut datagram = random.bytes(32);
         datagram[0] = kind;
         datagram[1..3].copy_from_slice(&900u16.to_be_bytes());
-        step_message(test, &mut room, &datagram, 0, Err(9));
+        caller.expect(StepMessage(&datagram, 0), Err(9));
     }
 }
 
 /// Datagrams as long as the room: messages of the longest lengths that two bytes can tell, and fill
 /// with one other byte at its end.
-fn archive_steps_in_long_datagrams(_: &Given, test: &mut Test) {
-    let mut room = Guarded::new();
+fn archive_steps_in_long_datagrams(given: &Given, test: &mut Test) {
+    let second = Second::read(&given.tables);
+    let mut caller = Caller::new(test);
     for length in [65_533, 65_534, 65_535, ROOM] {
         for told in [65_280, 65_532, 65_533, 65_534, 65_535u16] {
             let mut datagram = vec![255; length];
             for start in 0..3 {
                 datagram[start + 1..start + 3].copy_from_slice(&told.to_be_bytes());
-                compare(test, &mut room, &datagram, start);
+                caller.compare(&second, StepMessage(&datagram, start));
             }
-            walk(test, &mut room, &datagram);
+            walk(&mut caller, &second, &datagram);
         }
         for last in [0, 81, 1] {
             let mut datagram = vec![81; length];
             datagram[length - 1] = last;
             for position in [0, 1, length - 2, length - 1, length, length + 1] {
-                compare(test, &mut room, &datagram, position);
+                caller.compare(&second, StepMessage(&datagram, position));
             }
         }
     }
 }
 
-fn archive_steps_on_read_only_pages(_: &Given, test: &mut Test) {
-    let mut room = Guarded::read_only_in_calls();
+fn archive_steps_on_read_only_pages(given: &Given, test: &mut Test) {
+    let second = Second::read(&given.tables);
     let mut random = test.random(81);
+    let mut caller = Caller::with_read_only_input(test);
     for (datagram, position, answer) in [p11_and_p12(), typed_cases()].concat() {
-        step_message(test, &mut room, &datagram, position, answer);
+        caller.expect(StepMessage(&datagram, position), answer);
     }
     for _ in 0..2000 {
         let datagram = random_datagram(&mut random);
-        walk(test, &mut room, &datagram);
+        walk(&mut caller, &second, &datagram);
         let position = random.below(datagram.len() + 3);
-        compare(test, &mut room, &datagram, position);
+        caller.compare(&second, StepMessage(&datagram, position));
     }
 }

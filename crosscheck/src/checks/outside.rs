@@ -2,10 +2,11 @@
 //! (crosscheck/outside/README.md).
 
 use crate::harness::archive;
-use crate::harness::both_ways::{shown, shown_datagram, Rooms};
-use crate::harness::both_ways_blocks::{read_block, write_block};
+use crate::harness::caller::Caller;
 use crate::harness::report::{named_tests, Given, NamedTest, Test};
+use crate::harness::requests::blocks::{ReadBlock, WriteBlock};
 use crate::harness::samples::{filled, found};
+use crate::harness::shown::{shown, shown_datagram};
 use crate::outside::vectors::{Block, Outside};
 use crate::outside::worked_burst::{self, WorkedBurst};
 use crate::second::bits::{bits, from_bytes, inverted, of_plain_bytes};
@@ -202,29 +203,22 @@ fn written_by_the_archive(link: &Link, datagram: &[u8]) -> Vec<bool> {
 }
 
 fn archive_writes_the_blocks_from_outside(given: &Given, test: &mut Test) {
-    let mut rooms = Rooms::new();
+    let mut caller = Caller::new(test);
     for vector in Outside::read(&given.tables).blocks {
         let image = bits(&vector.image);
         let n = image.len();
-        write_block(
-            test,
-            &mut rooms,
-            vector.link,
-            &vector.datagram,
-            n,
-            Ok(image),
-        );
+        caller.expect(WriteBlock(vector.link, &vector.datagram, n), Ok(image));
     }
 }
 
 fn archive_reads_the_blocks_from_outside(given: &Given, test: &mut Test) {
     let second = Second::read(&given.tables);
-    let mut rooms = Rooms::new();
+    let mut caller = Caller::new(test);
     for vector in Outside::read(&given.tables).blocks {
         let link = second.links.of(vector.link);
         for (row, wrong) in received(&vector) {
             let expected = found(link, &vector.datagram, wrong);
-            read_block(test, &mut rooms, vector.link, &row, link.bytes(), expected);
+            caller.expect(ReadBlock(vector.link, &row, link.bytes()), expected);
         }
     }
 }

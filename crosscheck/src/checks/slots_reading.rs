@@ -2,10 +2,10 @@
 //! written, and against the second implementation.
 
 use crate::harness::archive;
-use crate::harness::both_ways::Rooms;
-use crate::harness::both_ways_slots::read_slot;
+use crate::harness::caller::Caller;
 use crate::harness::guarded::ROOM;
 use crate::harness::report::{named_tests, Given, NamedTest, Test};
+use crate::harness::requests::slots::ReadSlot;
 use crate::harness::samples::{
     burst_of, random_datagram, slot_found, slot_with_wrong, two_places, SLOT_SIZES,
 };
@@ -31,12 +31,6 @@ pub const TESTS: &[NamedTest] = named_tests![
     archive_reads_slots_on_read_only_pages,
 ];
 
-/// One reading call against the second implementation.
-fn compare(test: &mut Test, rooms: &mut Rooms, second: &Second, burst: &[u8], buffer: usize) {
-    let expected = second.read_slot(burst, buffer);
-    read_slot(test, rooms, burst, buffer, expected);
-}
-
 /// Places that count from the start of a part, as places of the burst.
 fn behind(start: usize, places: Vec<usize>) -> Vec<usize> {
     places.into_iter().map(|place| start + place).collect()
@@ -46,23 +40,23 @@ fn behind(start: usize, places: Vec<usize>) -> Vec<usize> {
 fn archive_reads_the_worked_burst(given: &Given, test: &mut Test) {
     let second = Second::read(&given.tables);
     let link = second.links.of(5);
-    let mut rooms = Rooms::new();
+    let mut caller = Caller::new(test);
     let datagram = worked_burst::datagram();
     let burst = bits(&WorkedBurst::read(&given.tables).bits());
     let expected = slot_found(link, &datagram, 0, 0);
-    read_slot(test, &mut rooms, &burst, 32, expected);
+    caller.expect(ReadSlot(&burst, 32), expected);
     for place in 0..burst.len() {
         let burst = inverted(&burst, &[place]);
         let expected = slot_with_wrong(link, &datagram, &[place]);
-        read_slot(test, &mut rooms, &burst, 32, expected);
+        caller.expect(ReadSlot(&burst, 32), expected);
     }
 }
 
 /// Random datagrams, all zeros and all ones, the empty one too.
 fn archive_reads_written_slots(given: &Given, test: &mut Test) {
     let second = Second::read(&given.tables);
-    let mut rooms = Rooms::new();
     let mut random = test.random(401);
+    let mut caller = Caller::new(test);
     for number in SLOT_LINKS {
         let link = second.links.of(number);
         let mut datagrams = vec![vec![], vec![0; link.bytes()], vec![255; link.bytes()]];
@@ -70,7 +64,7 @@ fn archive_reads_written_slots(given: &Given, test: &mut Test) {
         for datagram in datagrams {
             let burst = burst_of(&second, link, &datagram);
             let expected = slot_found(link, &datagram, 0, 0);
-            read_slot(test, &mut rooms, &burst, link.bytes(), expected);
+            caller.expect(ReadSlot(&burst, link.bytes()), expected);
         }
     }
 }
@@ -78,8 +72,8 @@ fn archive_reads_written_slots(given: &Given, test: &mut Test) {
 /// Both calls are the archive's: datagrams of every length that the link holds.
 fn archive_reads_back_the_slots_it_writes(given: &Given, test: &mut Test) {
     let second = Second::read(&given.tables);
-    let mut rooms = Rooms::new();
     let mut random = test.random(402);
+    let mut caller = Caller::new(test);
     for (number, bytes, length) in SLOT_SIZES {
         let link = second.links.of(number);
         for count in (0..=bytes).collect::<Vec<_>>().repeat(10) {
@@ -87,7 +81,7 @@ fn archive_reads_back_the_slots_it_writes(given: &Given, test: &mut Test) {
             let mut burst = vec![0; length];
             archive::write_slot(number, &mut datagram, &mut burst);
             let expected = slot_found(link, &datagram, 0, 0);
-            read_slot(test, &mut rooms, &burst, bytes, expected);
+            caller.expect(ReadSlot(&burst, bytes), expected);
         }
     }
 }
@@ -95,8 +89,8 @@ fn archive_reads_back_the_slots_it_writes(given: &Given, test: &mut Test) {
 /// Every place of three bursts of each link.
 fn archive_reads_slots_with_one_wrong(given: &Given, test: &mut Test) {
     let second = Second::read(&given.tables);
-    let mut rooms = Rooms::new();
     let mut random = test.random(403);
+    let mut caller = Caller::new(test);
     for number in SLOT_LINKS.repeat(3) {
         let link = second.links.of(number);
         let datagram = random_datagram(link, &mut random);
@@ -104,7 +98,7 @@ fn archive_reads_slots_with_one_wrong(given: &Given, test: &mut Test) {
         for place in 0..written.len() {
             let burst = inverted(&written, &[place]);
             let expected = slot_with_wrong(link, &datagram, &[place]);
-            read_slot(test, &mut rooms, &burst, link.bytes(), expected);
+            caller.expect(ReadSlot(&burst, link.bytes()), expected);
         }
     }
 }
@@ -113,15 +107,15 @@ fn archive_reads_slots_with_one_wrong(given: &Given, test: &mut Test) {
 fn archive_reads_every_two_wrong_in_a_slot(given: &Given, test: &mut Test) {
     let second = Second::read(&given.tables);
     let link = second.links.of(5);
-    let mut rooms = Rooms::new();
     let mut random = test.random(404);
+    let mut caller = Caller::new(test);
     let datagram = random_datagram(link, &mut random);
     let written = burst_of(&second, link, &datagram);
     for one in 0..written.len() {
         for other in 0..one {
             let burst = inverted(&written, &[one, other]);
             let expected = slot_with_wrong(link, &datagram, &[one, other]);
-            read_slot(test, &mut rooms, &burst, 32, expected);
+            caller.expect(ReadSlot(&burst, 32), expected);
         }
     }
 }
@@ -129,8 +123,8 @@ fn archive_reads_every_two_wrong_in_a_slot(given: &Given, test: &mut Test) {
 /// None to seven wrong in the word and none or one in the block: each is counted by itself.
 fn archive_reads_slots_with_seven_wrong_in_the_word(given: &Given, test: &mut Test) {
     let second = Second::read(&given.tables);
-    let mut rooms = Rooms::new();
     let mut random = test.random(405);
+    let mut caller = Caller::new(test);
     for number in SLOT_LINKS.repeat(100) {
         let link = second.links.of(number);
         let datagram = random_datagram(link, &mut random);
@@ -142,7 +136,7 @@ fn archive_reads_slots_with_seven_wrong_in_the_word(given: &Given, test: &mut Te
                 let places = [of_word, of_block].concat();
                 let burst = inverted(&written, &places);
                 let expected = slot_with_wrong(link, &datagram, &places);
-                read_slot(test, &mut rooms, &burst, link.bytes(), expected);
+                caller.expect(ReadSlot(&burst, link.bytes()), expected);
             }
         }
     }
@@ -152,18 +146,18 @@ fn archive_reads_slots_with_seven_wrong_in_the_word(given: &Given, test: &mut Te
 /// another word.
 fn archive_reads_slots_with_more_wrong_in_the_word(given: &Given, test: &mut Test) {
     let second = Second::read(&given.tables);
-    let mut rooms = Rooms::new();
     let mut random = test.random(406);
+    let mut caller = Caller::new(test);
     for number in SLOT_LINKS.repeat(300) {
         let link = second.links.of(number);
         let written = burst_of(&second, link, &random_datagram(link, &mut random));
         let eight = behind(TRAINING, random.places(8, PLACES));
         let far = inverted(&written, &eight);
-        read_slot(test, &mut rooms, &far, link.bytes(), Err(6));
+        caller.expect(ReadSlot(&far, link.bytes()), Err(6));
         for word_wrong in 9..=16 {
             let of_word = behind(TRAINING, random.places(word_wrong, PLACES));
             let burst = inverted(&written, &of_word);
-            compare(test, &mut rooms, &second, &burst, link.bytes());
+            caller.compare(&second, ReadSlot(&burst, link.bytes()));
         }
     }
 }
@@ -172,8 +166,8 @@ fn archive_reads_slots_with_more_wrong_in_the_word(given: &Given, test: &mut Tes
 /// stays as long as it was, and its rest is read as a block of the link whose word is near.
 fn archive_reads_slots_between_words(given: &Given, test: &mut Test) {
     let second = Second::read(&given.tables);
-    let mut rooms = Rooms::new();
     let mut random = test.random(407);
+    let mut caller = Caller::new(test);
     for number in SLOT_LINKS {
         let link = second.links.of(number);
         let written = burst_of(&second, link, &random_datagram(link, &mut random));
@@ -182,7 +176,7 @@ fn archive_reads_slots_between_words(given: &Given, test: &mut Test) {
             let places = behind(TRAINING, differing_places(word, second.words.of(other)));
             for count in 0..=places.len() {
                 let burst = inverted(&written, &places[..count]);
-                compare(test, &mut rooms, &second, &burst, link.bytes());
+                caller.compare(&second, ReadSlot(&burst, link.bytes()));
             }
         }
     }
@@ -192,8 +186,8 @@ fn archive_reads_slots_between_words(given: &Given, test: &mut Test) {
 /// to seven wrong.
 fn archive_refuses_two_wrong_in_slots(given: &Given, test: &mut Test) {
     let second = Second::read(&given.tables);
-    let mut rooms = Rooms::new();
     let mut random = test.random(408);
+    let mut caller = Caller::new(test);
     for number in SLOT_LINKS {
         let link = second.links.of(number);
         for of_block in [0, 1, 2].repeat(300) {
@@ -202,7 +196,7 @@ fn archive_refuses_two_wrong_in_slots(given: &Given, test: &mut Test) {
             let word_wrong = random.below(8);
             let of_word = behind(TRAINING, random.places(word_wrong, PLACES));
             let burst = inverted(&written, &[two, of_word].concat());
-            read_slot(test, &mut rooms, &burst, link.bytes(), Err(7));
+            caller.expect(ReadSlot(&burst, link.bytes()), Err(7));
         }
     }
 }
@@ -210,21 +204,21 @@ fn archive_refuses_two_wrong_in_slots(given: &Given, test: &mut Test) {
 /// Random bits all over, behind the training, and behind the head of each link.
 fn archive_reads_slots_of_random_bits(given: &Given, test: &mut Test) {
     let second = Second::read(&given.tables);
-    let mut rooms = Rooms::new();
     let mut random = test.random(409);
+    let mut caller = Caller::new(test);
     for (number, bytes, length) in SLOT_SIZES {
         let written = burst_of(&second, second.links.of(number), &[]);
         for kept in [0, TRAINING, HEAD].repeat(300) {
             let burst = [&written[..kept], &random.bits(length - kept)].concat();
-            compare(test, &mut rooms, &second, &burst, bytes);
+            caller.compare(&second, ReadSlot(&burst, bytes));
         }
     }
 }
 
 fn archive_reads_slots_into_any_buffer(given: &Given, test: &mut Test) {
     let second = Second::read(&given.tables);
-    let mut rooms = Rooms::new();
     let mut random = test.random(410);
+    let mut caller = Caller::new(test);
     for (number, bytes, length) in SLOT_SIZES {
         let link = second.links.of(number);
         let near = [0, 1, bytes / 2, bytes - 1, bytes, bytes + 1, bytes + 7];
@@ -233,7 +227,7 @@ fn archive_reads_slots_into_any_buffer(given: &Given, test: &mut Test) {
             for wrong in 0..=2 {
                 let places = behind(HEAD, random.places(wrong, length - HEAD));
                 let burst = inverted(&written, &places);
-                compare(test, &mut rooms, &second, &burst, buffer);
+                caller.compare(&second, ReadSlot(&burst, buffer));
             }
         }
     }
@@ -242,8 +236,8 @@ fn archive_reads_slots_into_any_buffer(given: &Given, test: &mut Test) {
 /// Read, mended and refused over buffers filled with each of the 256 bytes.
 fn archive_reads_slots_over_any_bytes(given: &Given, test: &mut Test) {
     let second = Second::read(&given.tables);
-    let mut rooms = Rooms::over_any_bytes();
     let mut random = test.random(411);
+    let mut caller = Caller::over_any_bytes(test);
     for (number, bytes, length) in SLOT_SIZES {
         let link = second.links.of(number);
         for wrong in 0..=2 {
@@ -251,7 +245,7 @@ fn archive_reads_slots_over_any_bytes(given: &Given, test: &mut Test) {
             let places = behind(HEAD, random.places(wrong, length - HEAD));
             let burst = inverted(&written, &places);
             for buffer in [bytes - 1, bytes, bytes + 9] {
-                compare(test, &mut rooms, &second, &burst, buffer);
+                caller.compare(&second, ReadSlot(&burst, buffer));
             }
         }
     }
@@ -259,19 +253,19 @@ fn archive_reads_slots_over_any_bytes(given: &Given, test: &mut Test) {
 
 fn archive_reads_slots_on_read_only_pages(given: &Given, test: &mut Test) {
     let second = Second::read(&given.tables);
-    let mut rooms = Rooms::with_read_only_input();
     let mut random = test.random(412);
+    let mut caller = Caller::with_read_only_input(test);
     for (number, bytes, length) in SLOT_SIZES {
         let link = second.links.of(number);
         for wrong in 0..=2 {
             let written = burst_of(&second, link, &random_datagram(link, &mut random));
             let burst = inverted(&written, &random.places(wrong, length));
             for cut in [0, TRAINING, HEAD - 1, HEAD, length - 1, length] {
-                compare(test, &mut rooms, &second, &burst[..cut], bytes);
-                compare(test, &mut rooms, &second, &burst[..cut], 0);
+                caller.compare(&second, ReadSlot(&burst[..cut], bytes));
+                caller.compare(&second, ReadSlot(&burst[..cut], 0));
             }
             let non_bit = [&burst[..length - 1], &[2]].concat();
-            compare(test, &mut rooms, &second, &non_bit, ROOM);
+            caller.compare(&second, ReadSlot(&non_bit, ROOM));
         }
     }
 }

@@ -1,12 +1,12 @@
 //! The tests of the refusals to read a slot burst: each number exactly then, the first in document
 //! 01's order where several apply ("Numbers a caller gets back").
 
-use crate::harness::both_ways::Rooms;
-use crate::harness::both_ways_slots::read_slot;
+use crate::harness::caller::Caller;
 use crate::harness::guarded::ROOM;
 use crate::harness::mixed_faults;
 use crate::harness::ordered_faults;
 use crate::harness::report::{named_tests, Given, NamedTest, Test};
+use crate::harness::requests::slots::ReadSlot;
 use crate::harness::samples::{burst_of, random_datagram, slot_found, SLOT_SIZES};
 use crate::outside::worked_burst::WorkedBurst;
 use crate::second::bits::{bits, inverted};
@@ -25,20 +25,20 @@ pub const TESTS: &[NamedTest] = named_tests![
 
 fn archive_orders_refusals_to_read_slots(given: &Given, test: &mut Test) {
     let second = Second::read(&given.tables);
-    let mut rooms = Rooms::new();
+    let mut caller = Caller::new(test);
     for ((burst, buffer), refusal) in ordered_faults::reading_slots(&second) {
-        read_slot(test, &mut rooms, &burst, buffer, Err(refusal));
+        caller.expect(ReadSlot(&burst, buffer), Err(refusal));
     }
 }
 
 fn archive_orders_mixed_faults_of_slots(given: &Given, test: &mut Test) {
     let second = Second::read(&given.tables);
-    let mut rooms = Rooms::new();
     let mut random = test.random(501);
+    let mut caller = Caller::new(test);
     for number in SLOT_LINKS.repeat(10) {
         let link = second.links.of(number);
         for ((burst, buffer), refusal) in mixed_faults::reading_slots(&second, link, &mut random) {
-            read_slot(test, &mut rooms, &burst, buffer, Err(refusal));
+            caller.expect(ReadSlot(&burst, buffer), Err(refusal));
         }
     }
 }
@@ -47,13 +47,13 @@ fn archive_orders_mixed_faults_of_slots(given: &Given, test: &mut Test) {
 /// places wrong, and into a buffer that is too short.
 fn archive_refuses_the_worked_burst_under_7(given: &Given, test: &mut Test) {
     let second = Second::read(&given.tables);
-    let mut rooms = Rooms::new();
+    let mut caller = Caller::new(test);
     let mut burst = bits(&WorkedBurst::read(&given.tables).bits());
     burst[TRAINING..HEAD].copy_from_slice(&bits(second.words.of(7)));
     let nearly = inverted(&burst, &[TRAINING, TRAINING + 8]);
     for burst in [burst, nearly] {
         for buffer in [0, 32, 127, 128, 1000] {
-            read_slot(test, &mut rooms, &burst, buffer, Err(2));
+            caller.expect(ReadSlot(&burst, buffer), Err(2));
         }
     }
 }
@@ -62,8 +62,8 @@ fn archive_refuses_the_worked_burst_under_7(given: &Given, test: &mut Test) {
 /// bits.
 fn archive_refuses_wrong_training(given: &Given, test: &mut Test) {
     let second = Second::read(&given.tables);
-    let mut rooms = Rooms::new();
     let mut random = test.random(502);
+    let mut caller = Caller::new(test);
     for number in SLOT_LINKS {
         let link = second.links.of(number);
         let written = burst_of(&second, link, &random_datagram(link, &mut random));
@@ -72,19 +72,19 @@ fn archive_refuses_wrong_training(given: &Given, test: &mut Test) {
         let wrong = many.chain(symbols).collect::<Vec<_>>();
         for places in wrong {
             let burst = inverted(&written, &places);
-            read_slot(test, &mut rooms, &burst, link.bytes(), Err(5));
+            caller.expect(ReadSlot(&burst, link.bytes()), Err(5));
         }
         let single = written[..TRAINING].iter().step_by(2).copied();
         let single: Vec<u8> = single.cycle().take(TRAINING).collect();
         let burst = [&single, &written[TRAINING..]].concat();
-        read_slot(test, &mut rooms, &burst, link.bytes(), Err(5));
+        caller.expect(ReadSlot(&burst, link.bytes()), Err(5));
     }
 }
 
 /// Each of the 64 words before a block of each slot link, and before no block at all.
 fn archive_reads_slots_under_every_word(given: &Given, test: &mut Test) {
     let second = Second::read(&given.tables);
-    let mut rooms = Rooms::new();
+    let mut caller = Caller::new(test);
     for link in SLOT_LINKS.map(|number| second.links.of(number)) {
         let mut burst = burst_of(&second, link, &[4, 5, 6]);
         for number in 0..64 {
@@ -94,9 +94,9 @@ fn archive_reads_slots_under_every_word(given: &Given, test: &mut Test) {
                 5..=7 => (Err(2), 2),
                 _ => (Err(1), 1),
             };
-            read_slot(test, &mut rooms, &burst, ROOM, expected);
-            read_slot(test, &mut rooms, &burst[..HEAD], ROOM, Err(of_head));
-            read_slot(test, &mut rooms, &burst[..HEAD], 0, Err(of_head));
+            caller.expect(ReadSlot(&burst, ROOM), expected);
+            caller.expect(ReadSlot(&burst[..HEAD], ROOM), Err(of_head));
+            caller.expect(ReadSlot(&burst[..HEAD], 0), Err(of_head));
         }
     }
 }
@@ -105,13 +105,13 @@ fn archive_reads_slots_under_every_word(given: &Given, test: &mut Test) {
 /// takes for the right one: cut from a burst or with bits behind it.
 fn archive_refuses_lengths_of_slots(given: &Given, test: &mut Test) {
     let second = Second::read(&given.tables);
-    let mut rooms = Rooms::new();
+    let mut caller = Caller::new(test);
     for (number, bytes, right) in SLOT_SIZES {
         let written = burst_of(&second, second.links.of(number), &[7, 8, 9]);
         let narrow = [right + 256, right + 32_768, ROOM];
         for length in (0..=1600).chain(narrow).filter(|&length| length != right) {
             let burst: Vec<u8> = written.iter().copied().cycle().take(length).collect();
-            read_slot(test, &mut rooms, &burst, bytes, Err(2));
+            caller.expect(ReadSlot(&burst, bytes), Err(2));
         }
     }
 }
@@ -120,8 +120,8 @@ fn archive_refuses_lengths_of_slots(given: &Given, test: &mut Test) {
 /// and those in the rest come behind the buffer.
 fn archive_refuses_non_bits_in_slots(given: &Given, test: &mut Test) {
     let second = Second::read(&given.tables);
-    let mut rooms = Rooms::new();
     let mut random = test.random(503);
+    let mut caller = Caller::new(test);
     for (number, bytes, length) in SLOT_SIZES {
         let link = second.links.of(number);
         let written = burst_of(&second, link, &random_datagram(link, &mut random));
@@ -130,8 +130,8 @@ fn archive_refuses_non_bits_in_slots(given: &Given, test: &mut Test) {
             for non_bit in [2, 3, 48, 49, 128, 129, 254, 255] {
                 let mut burst = written.clone();
                 burst[place] = non_bit;
-                read_slot(test, &mut rooms, &burst, bytes, Err(4));
-                read_slot(test, &mut rooms, &burst, bytes - 1, Err(too_short));
+                caller.expect(ReadSlot(&burst, bytes), Err(4));
+                caller.expect(ReadSlot(&burst, bytes - 1), Err(too_short));
             }
         }
     }

@@ -1,12 +1,13 @@
 //! The tests of link words: the second implementation against the printed Table 3 and document
 //! 01's cases, and the archive against the second implementation.
 
-use crate::harness::both_ways::{read_word, write_word, write_word_over};
-use crate::harness::guarded::{Guarded, ROOM};
+use crate::harness::caller::Caller;
 use crate::harness::report::{named_tests, Given, NamedTest, Test};
+use crate::harness::requests::words::{ReadWord, WriteWord};
 use crate::second::bits::{bits, inverted};
 use crate::second::tables::{digits, Tables};
 use crate::second::words::{differing_places, Reading, Refusal, Word, Words, PLACES};
+use crate::second::Second;
 
 pub const TESTS: &[NamedTest] = named_tests![
     second_words_equal_table_3,
@@ -100,40 +101,37 @@ fn second_words_lie_apart(given: &Given, test: &mut Test) {
 }
 
 fn archive_writes_table_3(given: &Given, test: &mut Test) {
-    let mut room = Guarded::new();
+    let mut caller = Caller::new(test);
     for (number, printed) in Tables::read(&given.tables).table3.iter().enumerate() {
-        write_word(test, &mut room, number as u32, PLACES, Ok(bits(printed)));
+        caller.expect(WriteWord(number as u32, PLACES), Ok(bits(printed)));
     }
 }
 
 fn archive_writes_or_refuses(given: &Given, test: &mut Test) {
-    let words = words(given);
-    let mut room = Guarded::new();
+    let second = Second::read(&given.tables);
+    let mut caller = Caller::new(test);
     for number in (0..=70).chain([255, 256 + 5, 65_536 + 5, 1 << 31, u32::MAX]) {
         for length in (0..=40).chain([64, 100]) {
-            let expected = words.write(number, length);
-            write_word(test, &mut room, number, length, expected);
+            caller.compare(&second, WriteWord(number, length));
         }
     }
 }
 
 /// Every word over buffers filled with each of the 256 bytes.
 fn archive_writes_over_any_bytes(given: &Given, test: &mut Test) {
-    let mut room = Guarded::new();
-    let fills: Vec<Vec<u8>> = (0..=255).map(|byte| vec![byte; ROOM]).collect();
+    let mut caller = Caller::over_any_bytes(test);
     for (number, printed) in Tables::read(&given.tables).table3.iter().enumerate() {
-        let expected = Ok(bits(printed));
-        write_word_over(&fills, test, &mut room, number as u32, 40, expected);
+        caller.expect(WriteWord(number as u32, 40), Ok(bits(printed)));
     }
 }
 
 fn archive_holds_p1_to_p6(given: &Given, test: &mut Test) {
-    let mut room = Guarded::new();
+    let mut caller = Caller::new(test);
     for (number, word) in p1_to_p3() {
-        write_word(test, &mut room, number, PLACES, Ok(bits(&word)));
+        caller.expect(WriteWord(number, PLACES), Ok(bits(&word)));
     }
     for (row, answer) in p4_to_p6(&words(given)) {
-        read_word(test, &mut room, &row, answer);
+        caller.expect(ReadWord(&row), answer);
     }
 }
 
@@ -151,56 +149,59 @@ fn at_most_three_places() -> Vec<Vec<usize>> {
 }
 
 fn archive_reads_to_three_wrong(given: &Given, test: &mut Test) {
-    let words = words(given);
-    let mut room = Guarded::new();
+    let second = Second::read(&given.tables);
+    let words = &second.words;
+    let mut caller = Caller::new(test);
     let sets = at_most_three_places();
     for number in 0..64 {
         for places in &sets {
             let row = inverted(&bits(words.of(number)), places);
-            read_word(test, &mut room, &row, words.read(&row));
+            caller.compare(&second, ReadWord(&row));
         }
     }
 }
 
 fn archive_reads_four_to_twelve_wrong(given: &Given, test: &mut Test) {
-    let words = words(given);
-    let mut room = Guarded::new();
+    let second = Second::read(&given.tables);
+    let words = &second.words;
     let mut random = test.random(2092);
+    let mut caller = Caller::new(test);
     for _ in 0..200_000 {
         let word = words.of(random.below(64));
         let count = 4 + random.below(9);
         let row = inverted(&bits(word), &random.places(count, PLACES));
-        read_word(test, &mut room, &row, words.read(&row));
+        caller.compare(&second, ReadWord(&row));
     }
 }
 
 /// From every word to every other, one differing place after another; halfway two are equally near.
 fn archive_reads_between_words(given: &Given, test: &mut Test) {
-    let words = words(given);
-    let mut room = Guarded::new();
+    let second = Second::read(&given.tables);
+    let words = &second.words;
+    let mut caller = Caller::new(test);
     for (from, to) in (0..64).flat_map(|from| (0..64).map(move |to| (from, to))) {
         let places = differing_places(words.of(from), words.of(to));
         for count in 0..=places.len() {
             let row = inverted(&bits(words.of(from)), &places[..count]);
-            read_word(test, &mut room, &row, words.read(&row));
+            caller.compare(&second, ReadWord(&row));
         }
     }
 }
 
 fn archive_reads_random_rows(given: &Given, test: &mut Test) {
-    let words = words(given);
-    let mut room = Guarded::new();
+    let second = Second::read(&given.tables);
     let mut random = test.random(583);
+    let mut caller = Caller::new(test);
     for _ in 0..100_000 {
         let row = random.bits(PLACES);
-        read_word(test, &mut room, &row, words.read(&row));
+        caller.compare(&second, ReadWord(&row));
     }
 }
 
 /// Zeros, ones, and the bits of each word over and over.
 fn archive_refuses_lengths(given: &Given, test: &mut Test) {
     let words = words(given);
-    let mut room = Guarded::new();
+    let mut caller = Caller::new(test);
     let mut repeated = vec![vec![0; PLACES], vec![1; PLACES]];
     repeated.extend((0..64).map(|number| bits(words.of(number))));
     for source in &repeated {
@@ -210,20 +211,20 @@ fn archive_refuses_lengths(given: &Given, test: &mut Test) {
                 PLACES => words.read(&row),
                 _ => Err(2),
             };
-            read_word(test, &mut room, &row, expected);
+            caller.expect(ReadWord(&row), expected);
         }
     }
 }
 
 fn archive_refuses_non_bits(given: &Given, test: &mut Test) {
     let words = words(given);
-    let mut room = Guarded::new();
+    let mut caller = Caller::new(test);
     for number in 0..64 {
         for place in 0..PLACES {
             for non_bit in NON_BITS {
                 let mut row = bits(words.of(number));
                 row[place] = non_bit;
-                read_word(test, &mut room, &row, Err(4));
+                caller.expect(ReadWord(&row), Err(4));
             }
         }
     }
@@ -232,37 +233,38 @@ fn archive_refuses_non_bits(given: &Given, test: &mut Test) {
 /// A wrong length comes before a non-bit, a non-bit before a row far from every word.
 fn archive_orders_refusals(given: &Given, test: &mut Test) {
     let words = words(given);
-    let mut room = Guarded::new();
+    let mut caller = Caller::new(test);
     let [_, (far, refusal), _] = p4_to_p6(&words);
-    read_word(test, &mut room, &far, refusal);
+    caller.expect(ReadWord(&far), refusal);
     for non_bit in NON_BITS {
         for length in (0..=40).chain([64, 1000]) {
             let refusal = if length == PLACES { 4 } else { 2 };
-            read_word(test, &mut room, &vec![non_bit; length], Err(refusal));
+            caller.expect(ReadWord(&vec![non_bit; length]), Err(refusal));
         }
         for place in 0..PLACES {
             let mut row = far.clone();
             row[place] = non_bit;
-            read_word(test, &mut room, &row, Err(4));
-            read_word(test, &mut room, &row[..PLACES - 1], Err(2));
-            read_word(test, &mut room, &[&row[..], &[0]].concat(), Err(2));
+            caller.expect(ReadWord(&row), Err(4));
+            caller.expect(ReadWord(&row[..PLACES - 1]), Err(2));
+            caller.expect(ReadWord(&[&row[..], &[0]].concat()), Err(2));
         }
     }
 }
 
 fn archive_reads_read_only_pages(given: &Given, test: &mut Test) {
-    let words = words(given);
-    let mut room = Guarded::read_only_in_calls();
+    let second = Second::read(&given.tables);
+    let words = &second.words;
     let mut random = test.random(302);
+    let mut caller = Caller::with_read_only_input(test);
     for number in 0..64 {
         for count in 0..=12 {
             let row = inverted(&bits(words.of(number)), &random.places(count, PLACES));
-            read_word(test, &mut room, &row, words.read(&row));
+            caller.compare(&second, ReadWord(&row));
         }
     }
     for length in 0..=40 {
         for row in [random.bits(length), vec![255; length]] {
-            read_word(test, &mut room, &row, words.read(&row));
+            caller.compare(&second, ReadWord(&row));
         }
     }
 }

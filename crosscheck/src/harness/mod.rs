@@ -2,14 +2,14 @@
 //! is seen of them is held to what is expected and reported.
 
 pub mod archive;
-pub mod both_ways;
-pub mod both_ways_blocks;
-pub mod both_ways_slots;
+pub mod caller;
 pub mod guarded;
 pub mod mixed_faults;
 pub mod ordered_faults;
 pub mod program;
 pub mod random;
 pub mod report;
+pub mod requests;
 pub mod samples;
+pub mod shown;
 pub mod tool;

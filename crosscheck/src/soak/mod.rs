@@ -4,8 +4,7 @@
 
 mod requests;
 
-use crate::harness::both_ways::Rooms;
-use crate::harness::guarded::Guarded;
+use crate::harness::caller::Caller;
 use crate::harness::random::Random;
 use crate::harness::report::{exit_code, Test, TRACED};
 use crate::second::Second;
@@ -22,10 +21,8 @@ const PROGRESS: Duration = Duration::from_secs(10);
 /// What the cases of one kind are made with.
 pub struct Soak<'a> {
     pub second: &'a Second,
-    pub test: Test,
     pub random: Random,
-    pub room: Guarded,
-    pub rooms: Rooms,
+    pub caller: Caller<'a>,
 }
 
 pub type Kind = (&'static str, fn(&mut Soak));
@@ -55,12 +52,11 @@ pub fn run(tables: &str, rest: &[String]) -> Option<ExitCode> {
 /// Runs the cases of one kind and answers how many differ.
 fn soak(second: &Second, kind: &Kind, cases: usize, seed: u64, traced: bool) -> usize {
     let (name, make_case) = kind;
+    let mut test = Test::new(traced);
     let mut soak = Soak {
         second,
-        test: Test::new(traced),
         random: Random::from_seed(seed),
-        room: Guarded::new(),
-        rooms: Rooms::with_read_only_input(),
+        caller: Caller::with_read_only_input(&mut test),
     };
     let start = Instant::now();
     let mut shown = start;
@@ -68,14 +64,14 @@ fn soak(second: &Second, kind: &Kind, cases: usize, seed: u64, traced: bool) -> 
         make_case(&mut soak);
         if shown.elapsed() > PROGRESS || made == cases {
             shown = Instant::now();
-            let (speed, differences) = (per_second(made, start), soak.test.failed());
+            let (speed, differences) = (per_second(made, start), soak.caller.test.failed());
             println!(
                 "{name}: {made} of {cases} cases, {speed} a second, {differences} differences"
             );
         }
     }
-    assert_eq!(soak.test.cases(), cases, "a case of {name} was not counted");
-    soak.test.failed()
+    assert_eq!(test.cases(), cases, "a case of {name} was not counted");
+    test.failed()
 }
 
 fn per_second(cases: usize, start: Instant) -> u64 {

@@ -1,15 +1,15 @@
 //! The requests of the soak, one kind to a call: well-formed ones, damaged ones, and lies about
 //! links, lengths, bits and room.
 
-use crate::harness::both_ways::{read_word, step_message, write_word};
-use crate::harness::both_ways_blocks::{read_block, write_block};
-use crate::harness::both_ways_slots::{read_slot, write_slot};
 use crate::harness::ordered_faults::NOT_OFFERED;
 use crate::harness::random::Random;
+use crate::harness::requests::blocks::{ReadBlock, WriteBlock};
+use crate::harness::requests::messages::StepMessage;
+use crate::harness::requests::slots::{ReadSlot, WriteSlot};
+use crate::harness::requests::words::{ReadWord, WriteWord};
 use crate::harness::samples::{burst_of, image_of, random_datagram};
 use crate::second::bits::bits;
 use crate::second::links::Link;
-use crate::second::messages;
 use crate::second::slots::{HEAD, SLOT_LINKS, TRAINING};
 use crate::second::words::PLACES;
 use crate::soak::{Kind, Soak};
@@ -88,8 +88,8 @@ fn write_a_word(soak: &mut Soak) {
         _ => random.below(70) as u32,
     };
     let length = room_for(PLACES, random);
-    let expected = soak.second.words.write(number, length);
-    write_word(&mut soak.test, &mut soak.room, number, length, expected);
+    let request = WriteWord(number, length);
+    soak.caller.compare(soak.second, request);
 }
 
 fn read_a_word(soak: &mut Soak) {
@@ -100,8 +100,7 @@ fn read_a_word(soak: &mut Soak) {
     };
     damage(&mut row, 12, random);
     let row = lie(row, random);
-    let expected = soak.second.words.read(&row);
-    read_word(&mut soak.test, &mut soak.room, &row, expected);
+    soak.caller.compare(soak.second, ReadWord(&row));
 }
 
 fn write_a_block(soak: &mut Soak) {
@@ -113,9 +112,8 @@ fn write_a_block(soak: &mut Soak) {
     };
     let datagram = some_datagram(link, random);
     let length = room_for(link.image_length(), random);
-    let expected = second.write_block(number, &datagram, length);
-    let (test, rooms) = (&mut soak.test, &mut soak.rooms);
-    write_block(test, rooms, number, &datagram, length, expected);
+    let request = WriteBlock(number, &datagram, length);
+    soak.caller.compare(second, request);
 }
 
 fn read_a_block(soak: &mut Soak) {
@@ -132,9 +130,7 @@ fn read_a_block(soak: &mut Soak) {
     damage(&mut row, 5, random);
     let row = lie(row, random);
     let length = room_for(link.bytes(), random);
-    let expected = second.read_block(number, &row, length);
-    let (test, rooms) = (&mut soak.test, &mut soak.rooms);
-    read_block(test, rooms, number, &row, length, expected);
+    soak.caller.compare(second, ReadBlock(number, &row, length));
 }
 
 fn write_a_slot(soak: &mut Soak) {
@@ -147,9 +143,8 @@ fn write_a_slot(soak: &mut Soak) {
     };
     let datagram = some_datagram(link, random);
     let length = room_for(HEAD + link.image_length(), random);
-    let expected = second.write_slot(number, &datagram, length);
-    let (test, rooms) = (&mut soak.test, &mut soak.rooms);
-    write_slot(test, rooms, number, &datagram, length, expected);
+    let request = WriteSlot(number, &datagram, length);
+    soak.caller.compare(second, request);
 }
 
 /// Training, word and block are damaged each on its own; the word may be that of another number.
@@ -167,8 +162,7 @@ fn read_a_slot(soak: &mut Soak) {
     damage(&mut row[HEAD..], 5, random);
     let row = lie(row, random);
     let length = room_for(link.bytes(), random);
-    let expected = second.read_slot(&row, length);
-    read_slot(&mut soak.test, &mut soak.rooms, &row, length, expected);
+    soak.caller.compare(second, ReadSlot(&row, length));
 }
 
 /// Messages one behind the other, some of which lie about their length, with fill behind them that
@@ -195,12 +189,6 @@ fn step_once(soak: &mut Soak) {
         1 => usize::MAX - random.below(3),
         _ => starts[random.below(starts.len())],
     };
-    let expected = messages::step(&datagram, position);
-    step_message(
-        &mut soak.test,
-        &mut soak.room,
-        &datagram,
-        position,
-        expected,
-    );
+    let request = StepMessage(&datagram, position);
+    soak.caller.compare(soak.second, request);
 }

@@ -1,0 +1,193 @@
+//! Makes the calls of a case: with each buffer against the guard before it and against the guard
+//! behind it, and when writing each time over different old contents.
+
+use crate::harness::guarded::{Guarded, Placed, BOTH_PLACES, ROOM};
+use crate::harness::report::Test;
+use std::fmt::Debug;
+
+/// What is seen of a call that writes to a buffer: its answer, the first byte that is not as it was
+/// to be written, and whether every other byte of the room, in the buffer and around it, is as it was.
+#[derive(Debug, PartialEq)]
+struct Writing<A> {
+    answer: A,
+    first_wrong: Option<WrongByte>,
+    rest_unchanged: bool,
+}
+
+#[derive(Debug, PartialEq)]
+struct WrongByte {
+    place: usize,
+    expected: u8,
+    got: u8,
+}
+
+/// What is seen of a call that reads a buffer.
+#[derive(Debug, PartialEq)]
+struct Reading<A> {
+    answer: A,
+    input_unchanged: bool,
+}
+
+impl<A> Writing<A> {
+    /// What is to be seen of a call that gives this answer.
+    fn good(answer: A) -> Writing<A> {
+        Writing {
+            answer,
+            first_wrong: None,
+            rest_unchanged: true,
+        }
+    }
+}
+
+impl<A> Reading<A> {
+    /// What is to be seen of a call that gives this answer.
+    fn good(answer: A) -> Reading<A> {
+        Reading {
+            answer,
+            input_unchanged: true,
+        }
+    }
+}
+
+/// Calls the archive in a running test. It has a room for what a call reads, one for what it writes
+/// to, and what the latter holds before each call of a case.
+pub struct Caller<'a> {
+    pub test: &'a mut Test,
+    input: Guarded,
+    output: Guarded,
+    old_contents: Vec<Vec<u8>>,
+}
+
+impl<'a> Caller<'a> {
+    pub fn new(test: &'a mut Test) -> Caller<'a> {
+        Caller::of(test, Guarded::new(), two_contents())
+    }
+
+    /// One whose input is read-only while a call is made.
+    pub fn with_read_only_input(test: &'a mut Test) -> Caller<'a> {
+        Caller::of(test, Guarded::read_only_in_calls(), two_contents())
+    }
+
+    /// One whose output is filled with each of the 256 bytes in turn.
+    pub fn over_any_bytes(test: &'a mut Test) -> Caller<'a> {
+        let fills = (0..=255).map(|byte| vec![byte; ROOM]);
+        Caller::of(test, Guarded::new(), fills.collect())
+    }
+
+    fn of(test: &'a mut Test, input: Guarded, old_contents: Vec<Vec<u8>>) -> Caller<'a> {
+        Caller {
+            test,
+            input,
+            output: Guarded::new(),
+            old_contents,
+        }
+    }
+
+    /// A call that reads this row: it is to give this answer. It is made at both places.
+    pub fn read<A: Debug + PartialEq>(
+        &mut self,
+        name: impl Fn() -> String,
+        row: &[u8],
+        answer: A,
+        call: impl Fn(&mut [u8]) -> A,
+    ) {
+        let places = BOTH_PLACES.into_iter();
+        let calls = places.map(|placed| reading(&mut self.input, placed, row, &call));
+        self.test.case(name, Reading::good(answer), calls);
+    }
+
+    /// A call that writes to a buffer of this length: it is to give this answer and to write these
+    /// bytes. It is made at both places over each of the old contents.
+    pub fn write<A: Debug + PartialEq>(
+        &mut self,
+        name: impl Fn() -> String,
+        length: usize,
+        (answer, written): (A, Vec<u8>),
+        call: impl Fn(&mut [u8]) -> A,
+    ) {
+        let old_contents = &self.old_contents;
+        let places = BOTH_PLACES.into_iter();
+        let ways = places.flat_map(|placed| old_contents.iter().map(move |old| (placed, old)));
+        let calls = ways
+            .map(|(placed, old)| writing(&mut self.output, placed, old, length, &written, &call));
+        self.test.case(name, Writing::good(answer), calls);
+    }
+
+    /// A call that reads this input and writes to a buffer of this length: it is to give this answer
+    /// and to write these bytes. It is made over each of the old contents, at both places in turn.
+    pub fn code<A: Debug + PartialEq>(
+        &mut self,
+        name: impl Fn() -> String,
+        input: &[u8],
+        length: usize,
+        (answer, written): (A, Vec<u8>),
+        call: impl Fn(&mut [u8], &mut [u8]) -> A,
+    ) {
+        let ways = BOTH_PLACES.into_iter().cycle().zip(&self.old_contents);
+        let calls = ways.map(|(placed, old)| {
+            reading(&mut self.input, placed, input, |input| {
+                let call = |output: &mut [u8]| call(input, output);
+                writing(&mut self.output, placed, old, length, &written, call)
+            })
+        });
+        let expected = Reading::good(Writing::good(answer));
+        self.test.case(name, expected, calls);
+    }
+}
+
+/// Two contents of a room that differ in most bytes.
+fn two_contents() -> Vec<Vec<u8>> {
+    let running = (0..ROOM).map(|n| (n * 7 % 251) as u8);
+    vec![vec![0xA5; ROOM], running.collect()]
+}
+
+/// Makes a call that reads this row at this place.
+fn reading<A>(
+    room: &mut Guarded,
+    placed: Placed,
+    row: &[u8],
+    call: impl FnOnce(&mut [u8]) -> A,
+) -> Reading<A> {
+    room.buffer(placed, row.len()).copy_from_slice(row);
+    Reading {
+        answer: room.lend(placed, row.len(), call),
+        input_unchanged: room.buffer(placed, row.len()) == row,
+    }
+}
+
+/// Makes a call that is to write these bytes to a buffer of this length at this place.
+fn writing<A>(
+    room: &mut Guarded,
+    placed: Placed,
+    old: &[u8],
+    length: usize,
+    written: &[u8],
+    call: impl FnOnce(&mut [u8]) -> A,
+) -> Writing<A> {
+    room.bytes().copy_from_slice(old);
+    let answer = room.lend(placed, length, call);
+    let (start, count) = (placed.span(length).start, written.len());
+    let (before, seen, behind) = parted(room.bytes(), start, count);
+    let (old_before, _, old_behind) = parted(old, start, count);
+    Writing {
+        answer,
+        first_wrong: first_wrong(written, seen),
+        rest_unchanged: before == old_before && behind == old_behind,
+    }
+}
+
+/// What stands before, in and behind the `count` bytes from this start on.
+fn parted(room: &[u8], start: usize, count: usize) -> (&[u8], &[u8], &[u8]) {
+    let (before, rest) = room.split_at(start);
+    let (written, behind) = rest.split_at(count);
+    (before, written, behind)
+}
+
+fn first_wrong(written: &[u8], seen: &[u8]) -> Option<WrongByte> {
+    let place = (0..written.len()).find(|&place| written[place] != seen[place])?;
+    Some(WrongByte {
+        place,
+        expected: written[place],
+        got: seen[place],
+    })
+}

@@ -1,0 +1,78 @@
+//! The requests to write and to read a slot burst.
+
+use crate::harness::archive::{self, SlotRead};
+use crate::harness::caller::Caller;
+use crate::harness::requests::{to_be_written, Request};
+use crate::harness::shown::{shown_datagram, shown_to};
+use crate::second::slots::SlotReading;
+use crate::second::words::Refusal;
+use crate::second::Second;
+
+/// The bits of the longest slot burst: a burst that is shown is shown whole.
+const LONGEST: usize = 1504;
+
+/// Link, datagram, bytes of the buffer.
+pub struct WriteSlot<'a>(pub u32, pub &'a [u8], pub usize);
+
+impl Request for WriteSlot<'_> {
+    type Answer = Result<Vec<u8>, Refusal>;
+
+    fn ask_second(&self, second: &Second) -> Self::Answer {
+        let WriteSlot(link, datagram, length) = *self;
+        second.write_slot(link, datagram, length)
+    }
+
+    fn ask_archive(&self, caller: &mut Caller, expected: Self::Answer) {
+        let WriteSlot(link, datagram, length) = *self;
+        let name = || {
+            let datagram = shown_datagram(datagram);
+            format!("write_slot, link {link}, {datagram}, buffer of {length} bytes")
+        };
+        let expected = to_be_written(expected);
+        caller.code(name, datagram, length, expected, |datagram, out| {
+            archive::write_slot(link, datagram, out)
+        });
+    }
+}
+
+/// What came, bytes of the buffer.
+pub struct ReadSlot<'a>(pub &'a [u8], pub usize);
+
+impl Request for ReadSlot<'_> {
+    type Answer = Result<SlotReading, Refusal>;
+
+    fn ask_second(&self, second: &Second) -> Self::Answer {
+        let ReadSlot(burst, length) = *self;
+        second.read_slot(burst, length)
+    }
+
+    fn ask_archive(&self, caller: &mut Caller, expected: Self::Answer) {
+        let ReadSlot(burst, length) = *self;
+        let name = || {
+            let burst = shown_to(LONGEST, burst);
+            format!("read_slot, burst {burst}, buffer of {length} bytes")
+        };
+        let expected = to_be_read(expected);
+        caller.code(name, burst, length, expected, archive::read_slot);
+    }
+}
+
+/// What a reading call is to answer and to write.
+fn to_be_read(expected: Result<SlotReading, Refusal>) -> (SlotRead, Vec<u8>) {
+    let (status, written, wrong, link, word_wrong) = match expected {
+        Ok(SlotReading {
+            block,
+            link,
+            word_wrong,
+        }) => (0, block.datagram, block.wrong, link, word_wrong),
+        Err(status) => (status, vec![], 0, 0, 0),
+    };
+    let answer = SlotRead {
+        status,
+        count: written.len() as u32,
+        wrong,
+        link,
+        word_wrong,
+    };
+    (answer, written)
+}
