@@ -8,7 +8,7 @@ use crate::harness::caller::Caller;
 use crate::harness::random::Random;
 use crate::harness::report::{exit_code, Test, TRACED};
 use crate::second::Second;
-use requests::KINDS;
+use requests::{Kind, KINDS};
 use std::path::Path;
 use std::process::ExitCode;
 use std::time::{Duration, Instant};
@@ -17,15 +17,6 @@ use std::time::{Duration, Instant};
 const CALLS_OF_A_CASE: usize = 2;
 
 const PROGRESS: Duration = Duration::from_secs(10);
-
-/// What the cases of one kind are made with.
-pub struct Soak<'a> {
-    pub second: &'a Second,
-    pub random: Random,
-    pub caller: Caller<'a>,
-}
-
-pub type Kind = (&'static str, fn(&mut Soak));
 
 /// The arguments behind the tables: how many calls of each kind, the seed, and whether every case is
 /// printed before its calls.
@@ -53,18 +44,15 @@ pub fn run(tables: &str, rest: &[String]) -> Option<ExitCode> {
 fn soak(second: &Second, kind: &Kind, cases: usize, seed: u64, traced: bool) -> usize {
     let (name, make_case) = kind;
     let mut test = Test::new(traced);
-    let mut soak = Soak {
-        second,
-        random: Random::from_seed(seed),
-        caller: Caller::with_read_only_input(&mut test),
-    };
+    let mut caller = Caller::with_read_only_input(&mut test);
+    let mut random = Random::from_seed(seed);
     let start = Instant::now();
     let mut shown = start;
     for made in 1..=cases {
-        make_case(&mut soak);
+        make_case(second, &mut random, &mut caller);
         if shown.elapsed() > PROGRESS || made == cases {
             shown = Instant::now();
-            let (speed, differences) = (per_second(made, start), soak.caller.test.failed());
+            let (speed, differences) = (per_second(made, start), caller.test.failed());
             println!(
                 "{name}: {made} of {cases} cases, {speed} a second, {differences} differences"
             );

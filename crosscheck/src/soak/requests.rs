@@ -1,6 +1,7 @@
 //! The requests of the soak, one kind to a call: well-formed ones, damaged ones, and lies about
 //! links, lengths, bits and room.
 
+use crate::harness::caller::Caller;
 use crate::harness::ordered_faults::NOT_OFFERED;
 use crate::harness::random::Random;
 use crate::harness::requests::blocks::{ReadBlock, WriteBlock};
@@ -12,7 +13,10 @@ use crate::second::bits::bits;
 use crate::second::links::Link;
 use crate::second::slots::{HEAD, SLOT_LINKS, TRAINING};
 use crate::second::words::PLACES;
-use crate::soak::{Kind, Soak};
+use crate::second::Second;
+
+/// A call by its name, and a function that makes one case of it.
+pub type Kind = (&'static str, fn(&Second, &mut Random, &mut Caller));
 
 pub const KINDS: [Kind; 7] = [
     ("write_word", write_a_word),
@@ -81,30 +85,26 @@ fn some_datagram(link: &Link, random: &mut Random) -> Vec<u8> {
     }
 }
 
-fn write_a_word(soak: &mut Soak) {
-    let random = &mut soak.random;
+fn write_a_word(second: &Second, random: &mut Random, caller: &mut Caller) {
     let number = match random.below(4) {
         0 => lying_number(random),
         _ => random.below(70) as u32,
     };
     let length = room_for(PLACES, random);
-    let request = WriteWord(number, length);
-    soak.caller.compare(soak.second, request);
+    caller.compare(second, WriteWord(number, length));
 }
 
-fn read_a_word(soak: &mut Soak) {
-    let random = &mut soak.random;
+fn read_a_word(second: &Second, random: &mut Random, caller: &mut Caller) {
     let mut row = match random.below(4) {
         0 => random.bits(PLACES),
-        _ => bits(soak.second.words.of(random.below(64))),
+        _ => bits(second.words.of(random.below(64))),
     };
     damage(&mut row, 12, random);
     let row = lie(row, random);
-    soak.caller.compare(soak.second, ReadWord(&row));
+    caller.compare(second, ReadWord(&row));
 }
 
-fn write_a_block(soak: &mut Soak) {
-    let (second, random) = (soak.second, &mut soak.random);
+fn write_a_block(second: &Second, random: &mut Random, caller: &mut Caller) {
     let link = &second.links.all()[random.below(second.links.all().len())];
     let number = match random.below(8) {
         0 => lying_number(random),
@@ -112,12 +112,10 @@ fn write_a_block(soak: &mut Soak) {
     };
     let datagram = some_datagram(link, random);
     let length = room_for(link.image_length(), random);
-    let request = WriteBlock(number, &datagram, length);
-    soak.caller.compare(second, request);
+    caller.compare(second, WriteBlock(number, &datagram, length));
 }
 
-fn read_a_block(soak: &mut Soak) {
-    let (second, random) = (soak.second, &mut soak.random);
+fn read_a_block(second: &Second, random: &mut Random, caller: &mut Caller) {
     let link = &second.links.all()[random.below(second.links.all().len())];
     let number = match random.below(16) {
         0 => lying_number(random),
@@ -130,11 +128,10 @@ fn read_a_block(soak: &mut Soak) {
     damage(&mut row, 5, random);
     let row = lie(row, random);
     let length = room_for(link.bytes(), random);
-    soak.caller.compare(second, ReadBlock(number, &row, length));
+    caller.compare(second, ReadBlock(number, &row, length));
 }
 
-fn write_a_slot(soak: &mut Soak) {
-    let (second, random) = (soak.second, &mut soak.random);
+fn write_a_slot(second: &Second, random: &mut Random, caller: &mut Caller) {
     let link = second.links.of(SLOT_LINKS[random.below(3)]);
     let number = match random.below(8) {
         0 => lying_number(random),
@@ -143,13 +140,11 @@ fn write_a_slot(soak: &mut Soak) {
     };
     let datagram = some_datagram(link, random);
     let length = room_for(HEAD + link.image_length(), random);
-    let request = WriteSlot(number, &datagram, length);
-    soak.caller.compare(second, request);
+    caller.compare(second, WriteSlot(number, &datagram, length));
 }
 
 /// Training, word and block are damaged each on its own; the word may be that of another number.
-fn read_a_slot(soak: &mut Soak) {
-    let (second, random) = (soak.second, &mut soak.random);
+fn read_a_slot(second: &Second, random: &mut Random, caller: &mut Caller) {
     let link = second.links.of(SLOT_LINKS[random.below(3)]);
     let mut row = burst_of(second, link, &random_datagram(link, random));
     if once_in(10, random) {
@@ -162,13 +157,12 @@ fn read_a_slot(soak: &mut Soak) {
     damage(&mut row[HEAD..], 5, random);
     let row = lie(row, random);
     let length = room_for(link.bytes(), random);
-    soak.caller.compare(second, ReadSlot(&row, length));
+    caller.compare(second, ReadSlot(&row, length));
 }
 
 /// Messages one behind the other, some of which lie about their length, with fill behind them that
 /// may hold another byte; stepped into where a message begins, or anywhere, or past the end.
-fn step_once(soak: &mut Soak) {
-    let random = &mut soak.random;
+fn step_once(second: &Second, random: &mut Random, caller: &mut Caller) {
     let (mut datagram, mut starts) = (Vec::new(), vec![0]);
     for _ in 0..random.below(5) {
         let length = 7 + random.below(300);
@@ -189,6 +183,5 @@ fn step_once(soak: &mut Soak) {
         1 => usize::MAX - random.below(3),
         _ => starts[random.below(starts.len())],
     };
-    let request = StepMessage(&datagram, position);
-    soak.caller.compare(soak.second, request);
+    caller.compare(second, StepMessage(&datagram, position));
 }
