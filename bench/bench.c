@@ -10,9 +10,10 @@
 #include <string.h>
 #include <time.h>
 
-enum { ROUNDS = 301, MOST = 200, LONGEST = 12855, PAINTED = 262144 };
+enum { ROUNDS = 301, MOST = 200, PAINTED = 262144 };
 
-static uint8_t datagrams[MOST][698], came[MOST][LONGEST], plain_image[LONGEST], image[LONGEST], out[698];
+static uint8_t datagrams[MOST][DECKLEWREN_HELD_MOST], came[MOST][DECKLEWREN_IMAGE_MOST], out[DECKLEWREN_HELD_MOST];
+static uint8_t plain_image[DECKLEWREN_IMAGE_MOST], image[DECKLEWREN_IMAGE_MOST];
 static size_t came_length;
 static decklewren_block block;
 
@@ -53,12 +54,12 @@ static void measure(uint32_t link, size_t held, int blocks, call *measured) {
 
 static void *call_nothing(void *unused) { return unused; }
 static void *call_write(void *unused) {
-    write_proved(19, 698, 0);
+    write_proved(19, DECKLEWREN_HELD_19, 0);
     return unused;
 }
 
 static void *call_read(void *unused) {
-    read_proved(19, 698, 0);
+    read_proved(19, DECKLEWREN_HELD_19, 0);
     return unused;
 }
 
@@ -129,13 +130,13 @@ int main(void) {
     for (int i = 0; i < MOST; i++) {
         for (size_t at = 0; at < sizeof datagrams[i]; at++) datagrams[i][at] = (uint8_t)(rand() >> 8);
     }
-    measure_writing(5, 32, MOST);
-    measure_writing(19, 698, 10);
-    measure_all_reading(5, 32, MOST);
-    measure_all_reading(19, 698, 10);
+    measure_writing(5, DECKLEWREN_HELD_5, MOST);
+    measure_writing(19, DECKLEWREN_HELD_19, 10);
+    measure_all_reading(5, DECKLEWREN_HELD_5, MOST);
+    measure_all_reading(19, DECKLEWREN_HELD_19, 10);
     size_t none = disturbed(call_nothing);
     printf("stack of a write: %zu bytes\n", disturbed(call_write) - none);
-    came_length = decklewren_write_block(19, datagrams[0], 698, came[0], sizeof came[0]).count;
+    came_length = decklewren_write_block(19, datagrams[0], DECKLEWREN_HELD_19, came[0], sizeof came[0]).count;
     printf("stack of a read:  %zu bytes\n", disturbed(call_read) - none);
     return 0;
 }
