@@ -74,6 +74,11 @@ fn lie(mut row: Vec<u8>, random: &mut Random) -> Vec<u8> {
     row
 }
 
+fn any_link<'a>(second: &'a Second, random: &mut Random) -> &'a Link {
+    let links = second.links.all();
+    &links[random.below(links.len())]
+}
+
 /// A datagram that the link holds, now and then one that is longer.
 fn some_datagram(link: &Link, random: &mut Random) -> Vec<u8> {
     match random.below(8) {
@@ -105,7 +110,7 @@ fn read_a_word(second: &Second, random: &mut Random, caller: &mut Caller) {
 }
 
 fn write_a_block(second: &Second, random: &mut Random, caller: &mut Caller) {
-    let link = &second.links.all()[random.below(second.links.all().len())];
+    let link = any_link(second, random);
     let number = match random.below(8) {
         0 => lying_number(random),
         _ => link.number,
@@ -116,7 +121,7 @@ fn write_a_block(second: &Second, random: &mut Random, caller: &mut Caller) {
 }
 
 fn read_a_block(second: &Second, random: &mut Random, caller: &mut Caller) {
-    let link = &second.links.all()[random.below(second.links.all().len())];
+    let link = any_link(second, random);
     let number = match random.below(16) {
         0 => lying_number(random),
         _ => link.number,
