@@ -108,7 +108,7 @@ static void measure_reading(const char *what, uint32_t link, size_t held, int bl
     measure(link, held, blocks, read_proved);
 }
 
-/* The first bit of an image is the block's first, whose residue is found last; on links 5 and 19 the second is the first clock's Y1. */
+/* The first bit of an image is the block's first, whose mark is found last; on links 5 and 19 the second is the first clock's Y1. */
 static void measure_all_reading(uint32_t link, size_t held, int blocks) {
     for (int i = 0; i < blocks; i++) {
         came_length = decklewren_write_block(link, datagrams[i], held, came[i], sizeof came[i]).count;
