@@ -1,4 +1,4 @@
-/* Holds every name and size of the header to the archive. Compiled as C and as C++; the header comes first, so that it stands
+/* Holds every name, size and function of the header to the archive. Compiled as C and as C++; the header comes first, so that it stands
    alone. The last line counts, 'N passed, M failed'. */
 #include "decklewren.h"
 #include <stdio.h>
@@ -78,6 +78,48 @@ static int listed(const sizes *list, size_t count, uint32_t link) {
     return 0;
 }
 
+/* The functions that answer a link's sizes answer what the archive does, 0 for a link that is not offered. */
+static void check_sizes(void) {
+    for (uint32_t link = 0; link < 1000; link++) {
+        size_t image = decklewren_write_block(link, datagram, 0, bits, sizeof bits).count;
+        expect("decklewren_image", link, image, decklewren_image(link));
+        expect("decklewren_held", link, decklewren_read_block(link, bits, image, datagram, sizeof datagram).count, decklewren_held(link));
+        expect("decklewren_burst", link, decklewren_write_slot(link, datagram, 0, bits, sizeof bits).count, decklewren_burst(link));
+    }
+    expect("decklewren_held, no link", 0, 0, decklewren_held(UINT32_MAX) + decklewren_image(UINT32_MAX) + decklewren_burst(UINT32_MAX));
+}
+
+/* The link word stands behind the training, and the block behind both. */
+static void check_training(void) {
+    uint8_t word[DECKLEWREN_WORD_BITS];
+    for (size_t n = 0; n < SLOT_LINKS; n++) {
+        uint32_t link = slot_links[n].link;
+        decklewren_write_word(link, word, sizeof word);
+        decklewren_write_slot(link, datagram, 0, bits, sizeof bits);
+        expect("TRAINING_BITS, link", link, 0, (uint64_t)memcmp(bits + DECKLEWREN_TRAINING_BITS, word, sizeof word));
+        expect("parts of a burst, link", link, slot_links[n].burst, DECKLEWREN_TRAINING_BITS + DECKLEWREN_WORD_BITS + slot_links[n].image);
+    }
+}
+
+/* Every status has words of its own, and a number that is none has those of no status. */
+static void check_words(void) {
+    for (uint32_t status = 0; status <= 11; status++) {
+        for (uint32_t other = 0; other < status; other++) {
+            int same = strcmp(decklewren_status_text(status), decklewren_status_text(other)) == 0;
+            expect("words shared with another status by", status, 0, (uint64_t)same);
+        }
+    }
+#define WORDS(name, number, text) expect("words of", number, 0, (uint64_t)strcmp(decklewren_status_text(name), text));
+    DECKLEWREN_STATUSES(WORDS)
+    expect("words of no status", 0, 0, (uint64_t)strcmp(decklewren_status_text(11), decklewren_status_text(UINT32_MAX)));
+}
+
+static void check_version(void) {
+    char text[32];
+    snprintf(text, sizeof text, "%d.%d.%d", DECKLEWREN_VERSION_MAJOR, DECKLEWREN_VERSION_MINOR, DECKLEWREN_VERSION_PATCH);
+    expect("VERSION", 0, 0, (uint64_t)strcmp(text, DECKLEWREN_VERSION));
+}
+
 /* The lists name every link that is offered, and no other. */
 static void check_lists(void) {
     unsigned missed = 0;
@@ -113,6 +155,10 @@ int main(void) {
     for (size_t n = 0; n < SLOT_LINKS; n++) check_slot_link(slot_links[n]);
     check_lists();
     check_most();
+    check_sizes();
+    check_training();
+    check_words();
+    check_version();
     printf("%u passed, %u failed\n", passed, failed);
     return failed != 0;
 }

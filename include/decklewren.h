@@ -1,24 +1,29 @@
-/* Decklewren: the burst coder of a VHF data exchange (VDES) module, ITU-R M.2092-1. For C11 and C++11.
+/* Decklewren: the burst coder of a VHF data exchange (VDES) module, ITU-R M.2092-1. For C11 and C++11; the archive is for x86-64
+   with the System V ABI. "Document 01" is the firm's document that sets the scope; where it differs from M.2092-1, it decides.
 
-   THE CALLS keep nothing between them, need no preparing and may be made from any thread. Bits travel one to a byte, with the
-   byte 0 or 1. Datagrams are plain bytes. Every call answers a struct whose status is 0 (done) or the number of a refusal.
+   THE CALLS keep nothing between them and need no preparing. Bits travel one to a byte, with the byte 0 or 1. Datagrams are plain
+   bytes. Every call answers a struct whose status is 0 (done) or the number of a refusal.
 
    A REFUSAL answers its number, 0 for all else, and changes no byte. Each call names its refusals in the order in which they
    are tried: where several apply, the first of that list is answered.
 
-   WHAT A CALLER KEEPS TO. A pointer is valid for the length that follows it, for writing where it is not const, and is not
-   null, not even at length 0. The buffers of one call do not overlap, and nobody changes them while the call runs. The stack
-   has room: docs/BENCHMARKS.md says how much the longest block needs. Nothing else is asked: any number may stand for a link
-   or a position, and any bytes in the buffers.
+   WHAT A CALLER KEEPS TO. A pointer is valid for the length that follows it, for writing where it is not const; where the length
+   is 0 it may be NULL. The buffers of one call do not overlap, and nobody changes them while the call runs. The stack has room:
+   DECKLEWREN_STACK_... below says how much. Nothing else is asked: any number may stand for a link or a position, any bytes in
+   the buffers, and a buffer may begin at any address, since bytes need no alignment.
+
+   THREADS AND INTERRUPTS. The archive has no writable data, no heap and no locks: calls may run side by side in threads and inside
+   one another, as where a signal or interrupt handler calls while a call runs. A handler needs the stack too. On a bare machine it
+   saves the SSE registers, and it leaves alone the 128 bytes below the stack pointer that it interrupts (the ABI's red zone): the
+   archive uses both. Of the C library it takes memcpy and memset.
 
    WHAT IS PROVED, of the Rattle sources of these calls, for all input: a call returns, touches nothing but the buffers that it
    is lent, and answers and writes what its contract says. The contracts leave one answer and one content of the buffers: what
-   these held before reaches neither the answer nor the bytes that it counts, and the bytes behind those stay as they were.
-   "Proved" at a call below names fields of the records in crates/claims/specs/Demands.antt; docs/PROMISES.md goes through them
-   sentence by sentence.
+   these held before reaches neither the answer nor the bytes that it counts, and the bytes behind those stay as they were. Each
+   refusal is answered exactly when it is the first of its call's list that applies. "Proved" at a call below says what else.
 
-   WHAT IS NOT PROVED: this header, the compiler's back end and the C side. They are tested: host/header_test.c holds every name
-   and size below to the archive, and the cross-check holds every call to a second implementation. */
+   WHAT IS NOT PROVED: this header, the compiler's back end and the C side. They are tested: every name, size and function below
+   is held to the archive, and every call to a second implementation that shares no code with the library. */
 
 #ifndef DECKLEWREN_H
 #define DECKLEWREN_H
@@ -30,20 +35,30 @@
 extern "C" {
 #endif
 
-/* The numbers a caller gets back as status (document 01, the table of that name). */
-enum {
-    DECKLEWREN_DONE = 0,
-    DECKLEWREN_NOT_OFFERED = 1,    /* link not offered; number above 63 for a link word; slot burst not of link 5, 6, 7 */
-    DECKLEWREN_WRONG_LENGTH = 2,   /* datagram longer than the link holds; link word, block or slot burst of the wrong length */
-    DECKLEWREN_NO_ROOM = 3,        /* output buffer too short */
-    DECKLEWREN_NO_BIT = 4,         /* a byte neither 0 nor 1 */
-    DECKLEWREN_NO_TRAINING = 5,    /* training differs */
-    DECKLEWREN_NO_WORD = 6,        /* no code word within seven */
-    DECKLEWREN_NO_BLOCK = 7,       /* no valid block's image within one */
-    DECKLEWREN_PAST_END = 8,       /* position past the end */
-    DECKLEWREN_BROKEN_MESSAGE = 9, /* fewer than 3 bytes left, length below 7, or message past the end */
-    DECKLEWREN_BROKEN_FILL = 10    /* fill holds another byte */
-};
+/* The version, here and nowhere else. MAJOR rises where a program must change or be compiled again (a call, a struct or a name that
+   was there has changed or is gone), MINOR where something is new, PATCH with every other change. */
+#define DECKLEWREN_VERSION_MAJOR 0
+#define DECKLEWREN_VERSION_MINOR 2
+#define DECKLEWREN_VERSION_PATCH 0
+
+/* The same as text: "0.2.0" is a literal, made of the three numbers. */
+#define DECKLEWREN_TEXT_OF(major, minor, patch) #major "." #minor "." #patch
+#define DECKLEWREN_TEXT(major, minor, patch) DECKLEWREN_TEXT_OF(major, minor, patch)
+#define DECKLEWREN_VERSION DECKLEWREN_TEXT(DECKLEWREN_VERSION_MAJOR, DECKLEWREN_VERSION_MINOR, DECKLEWREN_VERSION_PATCH)
+
+/* The numbers a caller gets back as status (document 01, the table of that name): X(name, number, what it says). */
+#define DECKLEWREN_STATUSES(X)                                                                                                       \
+    X(DECKLEWREN_DONE, 0, "done")                                                                                                    \
+    X(DECKLEWREN_NOT_OFFERED, 1, "link not offered; number above 63 for a link word; slot burst not of link 5, 6, 7")                \
+    X(DECKLEWREN_WRONG_LENGTH, 2, "datagram longer than the link holds; link word, block or slot burst of the wrong length")         \
+    X(DECKLEWREN_NO_ROOM, 3, "output buffer too short")                                                                              \
+    X(DECKLEWREN_NO_BIT, 4, "a byte neither 0 nor 1")                                                                                \
+    X(DECKLEWREN_NO_TRAINING, 5, "training differs")                                                                                 \
+    X(DECKLEWREN_NO_WORD, 6, "no code word within seven")                                                                            \
+    X(DECKLEWREN_NO_BLOCK, 7, "no valid block's image within one")                                                                   \
+    X(DECKLEWREN_PAST_END, 8, "position past the end")                                                                               \
+    X(DECKLEWREN_BROKEN_MESSAGE, 9, "fewer than 3 bytes left, length below 7, or message past the end")                              \
+    X(DECKLEWREN_BROKEN_FILL, 10, "fill holds another byte")
 
 /* The links that are offered (document 01, "The links"): X(link, bytes of a datagram that it holds, N bits of its image). Two things
    differ from M.2092-1, because document 01 says so and outranks it: link 20 has 32 check bits in the place of 16, and images have
@@ -79,19 +94,75 @@ enum {
     X(6, 992)                    \
     X(7, 1504)
 
-/* The same as names: DECKLEWREN_HELD_6 is 80, DECKLEWREN_IMAGE_6 is 906, DECKLEWREN_BURST_6 is 992. */
+/* The same as names: DECKLEWREN_NO_BLOCK is 7, DECKLEWREN_HELD_6 is 80, DECKLEWREN_IMAGE_6 is 906, DECKLEWREN_BURST_6 is 992. */
+#define DECKLEWREN_NAME_STATUS(name, number, text) name = number,
 #define DECKLEWREN_NAME_SIZES(link, held, image) DECKLEWREN_HELD_##link = held, DECKLEWREN_IMAGE_##link = image,
 #define DECKLEWREN_NAME_BURST(link, burst) DECKLEWREN_BURST_##link = burst,
+enum { DECKLEWREN_STATUSES(DECKLEWREN_NAME_STATUS) };
 enum {
     DECKLEWREN_LINKS(DECKLEWREN_NAME_SIZES)
     DECKLEWREN_SLOT_LINKS(DECKLEWREN_NAME_BURST)
-    DECKLEWREN_WORD_BITS = 32,                  /* bits of a link word */
+    DECKLEWREN_TRAINING_BITS = 54,               /* bits of the training that opens a slot burst */
+    DECKLEWREN_WORD_BITS = 32,                   /* bits of a link word */
     DECKLEWREN_HELD_MOST = DECKLEWREN_HELD_19,   /* a buffer this long takes every link's datagram, */
     DECKLEWREN_IMAGE_MOST = DECKLEWREN_IMAGE_33, /* every link's image, */
     DECKLEWREN_BURST_MOST = DECKLEWREN_BURST_7   /* every slot burst */
 };
+#undef DECKLEWREN_NAME_STATUS
 #undef DECKLEWREN_NAME_SIZES
 #undef DECKLEWREN_NAME_BURST
+
+/* Bytes of stack that a call takes below its caller's, on any link and any input: measured on the archive, return address and red
+   zone counted, and rounded up. They leave 500 bytes for what memcpy and memset take. */
+enum {
+    DECKLEWREN_STACK_WRITE_WORD = 128,
+    DECKLEWREN_STACK_READ_WORD = 128,
+    DECKLEWREN_STACK_WRITE_BLOCK = 13312,
+    DECKLEWREN_STACK_READ_BLOCK = 26624,
+    DECKLEWREN_STACK_WRITE_SLOT = 13312,
+    DECKLEWREN_STACK_READ_SLOT = 26624,
+    DECKLEWREN_STACK_STEP_MESSAGE = 128
+};
+
+/* A status in words, for a log or a screen; document 01 gives no number above 10. */
+static inline const char *decklewren_status_text(uint32_t status) {
+    switch (status) {
+#define DECKLEWREN_CASE(name, number, text) case name: return text;
+        DECKLEWREN_STATUSES(DECKLEWREN_CASE)
+#undef DECKLEWREN_CASE
+    default: return "no number of document 01";
+    }
+}
+
+/* The bytes of a datagram that a link holds; 0 where the link is not offered. */
+static inline size_t decklewren_held(uint32_t link) {
+    switch (link) {
+#define DECKLEWREN_CASE(number, held, image) case number: return held;
+        DECKLEWREN_LINKS(DECKLEWREN_CASE)
+#undef DECKLEWREN_CASE
+    default: return 0;
+    }
+}
+
+/* N, the bits of a link's image; 0 where the link is not offered. */
+static inline size_t decklewren_image(uint32_t link) {
+    switch (link) {
+#define DECKLEWREN_CASE(number, held, image) case number: return image;
+        DECKLEWREN_LINKS(DECKLEWREN_CASE)
+#undef DECKLEWREN_CASE
+    default: return 0;
+    }
+}
+
+/* The bits of a link's slot burst; 0 where the link has none. */
+static inline size_t decklewren_burst(uint32_t link) {
+    switch (link) {
+#define DECKLEWREN_CASE(number, burst) case number: return burst;
+        DECKLEWREN_SLOT_LINKS(DECKLEWREN_CASE)
+#undef DECKLEWREN_CASE
+    default: return 0;
+    }
+}
 
 /* What a writing call answers: count is the number of bytes laid at the buffer's start. */
 typedef struct {
@@ -136,7 +207,7 @@ typedef struct {
    In:       number, 0 to 63, be the link of that number offered or not
    Out:      32 bytes 0 or 1 at the start of out; bytes behind stay
    Refusals: 1 number above 63, 3 out_len below 32
-   Proved:   Demand2.words-written, words-back */
+   Proved:   these 32 are the number's word; reading them answers the number with wrong 0 */
 decklewren_written decklewren_write_word(uint32_t number, uint8_t *out, size_t out_len);
 
 /* Reads 32 bits as a link word.
@@ -144,7 +215,8 @@ decklewren_written decklewren_write_word(uint32_t number, uint8_t *out, size_t o
    In:       bits, 32 bytes 0 or 1
    Out:      nothing
    Refusals: 2 bits_len is not 32, 4 a byte neither 0 nor 1, 6 no code word within seven
-   Proved:   Demand3.word-exact, word-none, word-only-one, word-mended */
+   Proved:   a row of 32 bits is answered exactly when one of the 64 words is within seven places of it, and at most one is; that
+             word's number and the places that differ are the answer */
 decklewren_word decklewren_read_word(const uint8_t *bits, size_t bits_len);
 
 /* Writes the image of a datagram's block (M.2092-1, Annex 2, 1.2.4 to 1.2.6).
@@ -152,7 +224,7 @@ decklewren_word decklewren_read_word(const uint8_t *bits, size_t bits_len);
    In:       link; datagram, at most as many bytes as the link holds; it is filled with zero bytes
    Out:      N bytes 0 or 1 at the start of out; bytes behind stay
    Refusals: 1 link not offered, 2 datagram longer than the link holds, 3 out_len below N
-   Proved:   Demand2.blocks-written, blocks-back */
+   Proved:   these N are the image of the datagram's block; reading them answers the filled datagram with wrong 0 */
 decklewren_written decklewren_write_block(uint32_t link, const uint8_t *datagram, size_t datagram_len, uint8_t *out, size_t out_len);
 
 /* Reads the image of a block, with at most one bit of it wrong.
@@ -162,7 +234,9 @@ decklewren_written decklewren_write_block(uint32_t link, const uint8_t *datagram
              away: a datagram may end in zeros of its own
    Refusals: 1 link not offered, 2 bits_len is not N, 3 out_len below the bytes that the link holds, 4 a byte neither 0 nor 1,
              7 no valid block's image within one place
-   Proved:   Demand3.block-exact, block-none, block-only-one, block-answered, block-mended */
+   Proved:   N bits, with room in out, are answered exactly when the image of some block that can be written is within one place
+             of them; only one such block exists, and its datagram and the places that differ are the answer. So one wrong bit of
+             what was written is always mended */
 decklewren_block decklewren_read_block(uint32_t link, const uint8_t *bits, size_t bits_len, uint8_t *out, size_t out_len);
 
 /* Writes the slot burst of a datagram (M.2092-1, Annex 3, Table 23): 54 bits of training, the link word, the block.
@@ -170,7 +244,7 @@ decklewren_block decklewren_read_block(uint32_t link, const uint8_t *bits, size_
    In:       link, 5, 6 or 7; datagram, at most as many bytes as the link holds (32, 80, 128); it is filled with zero bytes
    Out:      86 + N bytes 0 or 1 at the start of out; bytes behind stay
    Refusals: 1 link not 5, 6, 7, 2 datagram longer than the link holds, 3 out_len below 86 + N
-   Proved:   Demand2.slots-written, slots-back */
+   Proved:   these bits are the datagram's burst; reading them answers the link and the filled datagram, with nothing wrong */
 decklewren_written decklewren_write_slot(uint32_t link, const uint8_t *datagram, size_t datagram_len, uint8_t *out, size_t out_len);
 
 /* Reads a slot burst, with at most seven bits of its link word wrong and at most one of its block.
@@ -180,16 +254,21 @@ decklewren_written decklewren_write_slot(uint32_t link, const uint8_t *datagram,
    Refusals: 2 bits_len below 86, 4 a byte neither 0 nor 1 in these 86, 5 training differs, 6 no code word within seven,
              1 link not 5, 6, 7, 2 the rest is not N long, 3 out_len below the bytes that the link holds,
              4 a byte neither 0 nor 1 in the rest, 7 no valid block's image within one place of the rest
-   Proved:   Demand3.slot-exact, slot-only-one, slot-answered, slot-mended */
+   Proved:   a row of bits, with room in out, is answered exactly when its training is right, the word of link 5, 6 or 7 is within
+             seven places and the image of a block of that link within one place of the rest; only one link and block are so near,
+             and they are the answer. So seven wrong bits of the word and one of the block are always mended */
 decklewren_slot decklewren_read_slot(const uint8_t *bits, size_t bits_len, uint8_t *out, size_t out_len);
 
-/* Finds the message that begins at a position of a datagram (M.2092-1, Annex 4, 4.9; docs/MESSAGES.md has the loop).
+/* Finds the message that begins at a position of a datagram (M.2092-1, Annex 4, 4.9). To walk a datagram, step from 0, each next
+   time from start + length, until length is 0: the status then says whether it is finished or which refusal ended it.
    Returns:  status with the message's start and total length, or with both 0 where no more follow ("finished")
    In:       datagram, and any position
    Out:      nothing
    Refusals: 8 position past the end; then 9 fewer than 3 bytes left, length below 7, or message past the end, or
              10 fill holds another byte
-   Proved:   Demand2.step-inside, message-found, step-finished, lie-refused, walk-ends, walk-tiles, walk-fill, walk-bytes */
+   Proved:   start + length is at most datagram_len, whatever the bytes say; a message is answered exactly where one begins that
+             is as long as it declares, at least 7, and ends inside. The walk ends; its messages lie end to end from 0, and where
+             it is finished all bytes behind the last one are fill, 0 or 81 */
 decklewren_step decklewren_step_message(const uint8_t *datagram, size_t datagram_len, size_t position);
 
 #ifdef __cplusplus

@@ -1,0 +1,116 @@
+/* Measures the stack of each call: runs it on a stack of its own that is painted first, and looks how far down the paint was changed.
+   Each request is made on two paints, so that a byte that happens to be written with one of them still shows. Prints a line for each
+   call with its largest figure over all links and outcomes, and ends with status 1 where one is above what the header says. */
+#define _XOPEN_SOURCE 700
+#include "decklewren.h"
+#include <stdio.h>
+#include <string.h>
+#include <ucontext.h>
+
+/* One request: which call, its link or position, how many bytes or bits it is given, and the room for its answer. */
+typedef struct {
+    unsigned call;
+    uint32_t link;
+    size_t given, room;
+} request;
+
+enum { WRITE_WORD, READ_WORD, WRITE_BLOCK, READ_BLOCK, WRITE_SLOT, READ_SLOT, STEP_MESSAGE, CALLS };
+enum { PAINTED = 262144 };
+
+static uint8_t stack[PAINTED];
+static uint8_t datagram[DECKLEWREN_HELD_MOST + 1], bits[DECKLEWREN_IMAGE_MOST], out[DECKLEWREN_IMAGE_MOST];
+static request asked;
+static const uint8_t *at_the_call;
+static ucontext_t here, there;
+
+/* Makes the call from the painted stack, and notes where the stack pointer stands at it: what is changed below that is the call's. */
+static void make_call(void) {
+    volatile uint32_t status = 0;
+    const uint8_t *pointer;
+    __asm__ volatile("mov %%rsp, %0" : "=r"(pointer));
+    at_the_call = pointer;
+    switch (asked.call) {
+    case WRITE_WORD: status = decklewren_write_word(asked.link, out, asked.room).status; break;
+    case READ_WORD: status = decklewren_read_word(bits, asked.given).status; break;
+    case WRITE_BLOCK: status = decklewren_write_block(asked.link, datagram, asked.given, out, asked.room).status; break;
+    case READ_BLOCK: status = decklewren_read_block(asked.link, bits, asked.given, out, asked.room).status; break;
+    case WRITE_SLOT: status = decklewren_write_slot(asked.link, datagram, asked.given, out, asked.room).status; break;
+    case READ_SLOT: status = decklewren_read_slot(bits, asked.given, out, asked.room).status; break;
+    default: status = decklewren_step_message(datagram, asked.given, asked.link).status; break;
+    }
+    (void)status;
+}
+
+/* Bytes of the stack below the call that it changed. */
+static size_t depth_on(uint8_t paint) {
+    memset(stack, paint, sizeof stack);
+    getcontext(&there);
+    there.uc_stack.ss_sp = stack;
+    there.uc_stack.ss_size = sizeof stack;
+    there.uc_link = &here;
+    makecontext(&there, make_call, 0);
+    swapcontext(&here, &there);
+    size_t lowest = 0;
+    while (lowest < sizeof stack && stack[lowest] == paint) lowest++;
+    return (size_t)(at_the_call - stack) - lowest;
+}
+
+static const char *const names[CALLS] = {"write_word", "read_word", "write_block", "read_block", "write_slot", "read_slot", "step_message"};
+static const size_t told[CALLS] = {DECKLEWREN_STACK_WRITE_WORD, DECKLEWREN_STACK_READ_WORD, DECKLEWREN_STACK_WRITE_BLOCK,
+                                   DECKLEWREN_STACK_READ_BLOCK, DECKLEWREN_STACK_WRITE_SLOT, DECKLEWREN_STACK_READ_SLOT,
+                                   DECKLEWREN_STACK_STEP_MESSAGE};
+static size_t most[CALLS];
+
+static void measure(unsigned call, uint32_t link, size_t given, size_t room) {
+    asked = (request){call, link, given, room};
+    const uint8_t paints[] = {0x55, 0xAA};
+    for (size_t n = 0; n < sizeof paints; n++) {
+        size_t depth = depth_on(paints[n]);
+        if (depth > most[call]) most[call] = depth;
+    }
+}
+
+/* Reads what lies in out: as it is, with its first bit wrong, with its last wrong too, and with that alone. */
+static void measure_reading(unsigned call, uint32_t link, size_t first, size_t length) {
+    memcpy(bits, out, length);
+    const size_t inverted[] = {first, length - 1, first};
+    measure(call, link, length, sizeof out);
+    for (size_t n = 0; n < sizeof inverted / sizeof *inverted; n++) {
+        bits[inverted[n]] ^= 1;
+        measure(call, link, length, sizeof out);
+    }
+}
+
+static void measure_words(void) {
+    for (uint32_t number = 0; number <= 64; number++) {
+        measure(WRITE_WORD, number, 0, DECKLEWREN_WORD_BITS);
+        measure_reading(READ_WORD, 0, 0, DECKLEWREN_WORD_BITS);
+    }
+}
+
+static void measure_block(uint32_t link, size_t held, size_t image) {
+    measure(WRITE_BLOCK, link, held + 1, sizeof out);
+    measure(WRITE_BLOCK, link, held, image - 1);
+    measure(WRITE_BLOCK, link, held, sizeof out);
+    measure_reading(READ_BLOCK, link, 0, image);
+}
+
+static void measure_slot(uint32_t link, size_t held, size_t burst) {
+    measure(WRITE_SLOT, link, held, sizeof out);
+    measure_reading(READ_SLOT, link, burst - decklewren_image(link), burst);
+}
+
+int main(void) {
+    int above = 0;
+    measure_words();
+#define BLOCK(link, held, image) measure_block(link, held, image);
+    DECKLEWREN_LINKS(BLOCK)
+#define SLOT(link, burst) measure_slot(link, DECKLEWREN_HELD_##link, burst);
+    DECKLEWREN_SLOT_LINKS(SLOT)
+    for (uint32_t position = 0; position < 10; position++) measure(STEP_MESSAGE, position, 8, 0);
+    for (unsigned call = 0; call < CALLS; call++) {
+        printf("%-12s %6zu bytes, the header says %zu\n", names[call], most[call], told[call]);
+        above |= most[call] == 0 || most[call] > told[call];
+    }
+    return above;
+}

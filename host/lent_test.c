@@ -1,0 +1,85 @@
+/* What the header says of the buffers that a caller lends: where a length is 0 the pointer may be NULL, for every call and every
+   pointer, and a buffer may begin at any address. The last line counts, 'N passed, M failed'. */
+#include "decklewren.h"
+#include <stdio.h>
+#include <string.h>
+
+static unsigned passed, failed;
+
+static void expect(const char *what, uint32_t link, uint64_t expected, uint64_t got) {
+    if (expected == got) {
+        passed++;
+        return;
+    }
+    failed++;
+    printf("%s, link %u: expected %llu, got %llu\n", what, (unsigned)link, (unsigned long long)expected, (unsigned long long)got);
+}
+
+static uint8_t datagram[DECKLEWREN_HELD_MOST], bits[DECKLEWREN_IMAGE_MOST], out[DECKLEWREN_IMAGE_MOST];
+
+static void check_null_words(void) {
+    expect("write_word, out NULL", 5, DECKLEWREN_NO_ROOM, decklewren_write_word(5, NULL, 0).status);
+    expect("write_word, out NULL", 64, DECKLEWREN_NOT_OFFERED, decklewren_write_word(64, NULL, 0).status);
+    expect("read_word, bits NULL", 0, DECKLEWREN_WRONG_LENGTH, decklewren_read_word(NULL, 0).status);
+}
+
+/* The empty datagram at NULL is the empty datagram: its image is that of one that points somewhere. */
+static void check_null_blocks(uint32_t link, size_t held, size_t image) {
+    expect("write_block", link, image, decklewren_write_block(link, datagram, 0, bits, sizeof bits).count);
+    expect("write_block, datagram NULL", link, image, decklewren_write_block(link, NULL, 0, out, sizeof out).count);
+    expect("write_block, images equal", link, 0, (uint64_t)memcmp(bits, out, image));
+    expect("write_block, out NULL", link, DECKLEWREN_NO_ROOM, decklewren_write_block(link, datagram, held, NULL, 0).status);
+    expect("write_block, both NULL", link, DECKLEWREN_NO_ROOM, decklewren_write_block(link, NULL, 0, NULL, 0).status);
+    expect("read_block, bits NULL", link, DECKLEWREN_WRONG_LENGTH, decklewren_read_block(link, NULL, 0, out, sizeof out).status);
+    expect("read_block, out NULL", link, DECKLEWREN_NO_ROOM, decklewren_read_block(link, bits, image, NULL, 0).status);
+    expect("read_block, both NULL", link, DECKLEWREN_WRONG_LENGTH, decklewren_read_block(link, NULL, 0, NULL, 0).status);
+}
+
+static void check_null_slots(uint32_t link, size_t held, size_t burst) {
+    expect("write_slot", link, burst, decklewren_write_slot(link, datagram, 0, bits, sizeof bits).count);
+    expect("write_slot, datagram NULL", link, burst, decklewren_write_slot(link, NULL, 0, out, sizeof out).count);
+    expect("write_slot, bursts equal", link, 0, (uint64_t)memcmp(bits, out, burst));
+    expect("write_slot, out NULL", link, DECKLEWREN_NO_ROOM, decklewren_write_slot(link, datagram, held, NULL, 0).status);
+    expect("write_slot, both NULL", link, DECKLEWREN_NO_ROOM, decklewren_write_slot(link, NULL, 0, NULL, 0).status);
+    expect("read_slot, bits NULL", link, DECKLEWREN_WRONG_LENGTH, decklewren_read_slot(NULL, 0, out, sizeof out).status);
+    expect("read_slot, out NULL", link, DECKLEWREN_NO_ROOM, decklewren_read_slot(bits, burst, NULL, 0).status);
+    expect("read_slot, both NULL", link, DECKLEWREN_WRONG_LENGTH, decklewren_read_slot(NULL, 0, NULL, 0).status);
+}
+
+static void check_null_elsewhere(void) {
+    expect("write_block, no such link", 4, DECKLEWREN_NOT_OFFERED, decklewren_write_block(4, NULL, 0, NULL, 0).status);
+    expect("read_block, no such link", 4, DECKLEWREN_NOT_OFFERED, decklewren_read_block(4, NULL, 0, NULL, 0).status);
+    expect("write_slot, no such link", 8, DECKLEWREN_NOT_OFFERED, decklewren_write_slot(8, NULL, 0, NULL, 0).status);
+    decklewren_step step = decklewren_step_message(NULL, 0, 0);
+    expect("step_message at 0, finished", 0, DECKLEWREN_DONE, step.status + step.start + step.length);
+    expect("step_message at 1", 0, DECKLEWREN_PAST_END, decklewren_step_message(NULL, 0, 1).status);
+    expect("step_message at the largest", 0, DECKLEWREN_PAST_END, decklewren_step_message(NULL, 0, SIZE_MAX).status);
+}
+
+/* A burst written and read, and a message found, with every buffer this many bytes behind an address that 64 divides. */
+static void check_address(size_t off) {
+    static _Alignas(64) uint8_t row[DECKLEWREN_BURST_MOST + 64], from[DECKLEWREN_HELD_7 + 64], to[DECKLEWREN_HELD_7 + 64];
+    uint32_t at = (uint32_t)off;
+    const uint8_t message[8] = {74, 0, 7, 0, 0, 0, 1, 81};
+    for (size_t n = 0; n < DECKLEWREN_HELD_7; n++) from[off + n] = (uint8_t)(n * 37);
+    memcpy(from + off, message, sizeof message);
+    expect("write_slot at an address", at, DECKLEWREN_BURST_7,
+           decklewren_write_slot(7, from + off, DECKLEWREN_HELD_7, row + off, DECKLEWREN_BURST_7).count);
+    row[off + 700] ^= 1;
+    expect("read_slot at an address", at, 1, decklewren_read_slot(row + off, DECKLEWREN_BURST_7, to + off, DECKLEWREN_HELD_7).wrong);
+    expect("read_slot, equal bytes", at, 0, (uint64_t)memcmp(from + off, to + off, DECKLEWREN_HELD_7));
+    expect("read_word at an address", at, 7, decklewren_read_word(row + off + DECKLEWREN_TRAINING_BITS, DECKLEWREN_WORD_BITS).number);
+    expect("step_message at an address", at, 7, decklewren_step_message(to + off, DECKLEWREN_HELD_7, 0).length);
+}
+
+int main(void) {
+    check_null_words();
+#define NULL_BLOCKS(link, held, image) check_null_blocks(link, held, image);
+    DECKLEWREN_LINKS(NULL_BLOCKS)
+#define NULL_SLOTS(link, burst) check_null_slots(link, DECKLEWREN_HELD_##link, burst);
+    DECKLEWREN_SLOT_LINKS(NULL_SLOTS)
+    check_null_elsewhere();
+    for (size_t off = 0; off < 64; off++) check_address(off);
+    printf("%u passed, %u failed\n", passed, failed);
+    return failed != 0;
+}
