@@ -5,18 +5,32 @@
 #include "decklewren.h"
 
 /* How the tool ends. */
-enum { ENDED_WELL = 0, REFUSED = 1, WRONG_USAGE = 2 };
+enum { ENDED_WELL = 0, REFUSED = 1, WRONG_USAGE = 2, NOT_READ_OR_WRITTEN = 3 };
 
 /* Bytes of standard input that are taken: 64 KiB. */
 enum { INPUT_MOST = 65536 };
 
-/* What the command line asks for. A number too large for its place is taken as the largest there, never cut to another one. */
+/* What the command line asks for. A number too large for its place is taken as the largest there, never cut to another one; `typed`
+   is the number as it stands on the command line. */
 typedef struct {
-    int has_number;
+    const char *typed;
     uint64_t number;
     int hex;
     uint64_t seed;
 } request;
+
+/* A command: whether it takes a number, -x, --seed. */
+enum need { NONE, OPTIONAL, NEEDED };
+typedef struct {
+    const char *name;
+    enum need number;
+    int takes_hex, takes_seed;
+    int (*run)(const request *asked);
+} command;
+
+/* tool_arguments.c: takes what stands behind a command, and answers 0 with the fault on standard error where it cannot. */
+int take_arguments(const command *called, char **arguments, int count, request *asked);
+int wrong_usage(const char *fault, ...);
 
 /* Standard input, as bits one to a byte or as a datagram. */
 typedef struct {
@@ -24,15 +38,28 @@ typedef struct {
     size_t count;
 } input;
 
-/* tool_input.c: each reads standard input to its end, and answers 0 with a line on standard error where it cannot be taken. */
+/* tool_input.c: each reads standard input to its end and answers how the tool ends, with a line on standard error where it cannot be
+   taken. */
 int take_bits(input *into);
 int take_datagram(input *into, int hex);
 
-/* tool_output.c */
+/* tool_output.c: a row of bits, a datagram, and a good end: what went to standard output is written before the counts are told. */
 void put_bits(const uint8_t *bits, size_t count);
 void put_datagram(const uint8_t *datagram, size_t count, int hex);
-int refuse(uint32_t status);
-int refuse_at(uint32_t status, size_t position);
+int end_well(const char *counts, ...);
+
+/* tool_refusals.c: a refusal by number and in words, with what was got and what was needed, or NULL for no more words. Each answers
+   REFUSED. */
+int refuse(uint32_t status, const char *got, ...);
+int refuse_at(uint32_t status, size_t position, const char *got, ...);
+int refuse_writing(uint32_t status, const request *asked, size_t came);
+int refuse_length(const input *bits, const char *what, size_t needed);
+int refuse_no_bit(const input *bits);
+
+/* tool_characters.c: the first character of the bits that is neither 0 nor 1, as its place, or the count where there is none; and how
+   it is called in a message. */
+size_t other_place(const input *bits);
+const char *other_name(const input *bits);
 
 /* The commands, in tool_links.c, tool_words.c, tool_blocks.c, tool_slots.c, tool_step.c and tool_damage.c. Each answers how the
    tool ends. */
@@ -46,7 +73,7 @@ int run_read_slot(const request *asked);
 int run_step(const request *asked);
 int run_damage(const request *asked);
 
-/* tool.c: a number as the library takes links; one above 32 bits stays above every link (document 01 offers none of them). */
+/* tool_arguments.c: a number as the library takes links; one above 32 bits stays above every link (document 01 offers none of them). */
 uint32_t narrowed(uint64_t number);
 
 #endif

@@ -7,20 +7,21 @@ static int take(input *into) {
     into->count = fread(into->bytes, 1, sizeof into->bytes, stdin);
     if (ferror(stdin)) {
         fprintf(stderr, "decklewren: standard input cannot be read\n");
-        return 0;
+        return NOT_READ_OR_WRITTEN;
     }
     if (into->count > INPUT_MOST) {
         fprintf(stderr, "decklewren: standard input is longer than 64 KiB\n");
-        return 0;
+        return REFUSED;
     }
-    return 1;
+    return ENDED_WELL;
 }
 
 /* One newline at the end is no bit. Every other character is handed on, '0' as 0 and '1' as 1, all others as another byte, so
    that the library refuses them (document 01, number 4). */
 int take_bits(input *into) {
-    if (!take(into)) {
-        return 0;
+    int taken = take(into);
+    if (taken != ENDED_WELL) {
+        return taken;
     }
     if (into->count > 0 && into->bytes[into->count - 1] == '\n') {
         into->count--;
@@ -28,7 +29,7 @@ int take_bits(input *into) {
     for (size_t place = 0; place < into->count; place++) {
         into->bytes[place] = (uint8_t)(into->bytes[place] - '0');
     }
-    return 1;
+    return ENDED_WELL;
 }
 
 /* The value of a hexadecimal digit, or -1. */
@@ -52,13 +53,16 @@ static int from_hex(input *into) {
         int low = place + 1 < into->count ? digit(into->bytes[place + 1]) : -1;
         if (high < 0 || low < 0) {
             fprintf(stderr, "decklewren: no hexadecimal byte at character %zu of standard input\n", place + 1);
-            return 0;
+            return REFUSED;
         }
         into->bytes[count++] = (uint8_t)(16 * high + low);
         place++;
     }
     into->count = count;
-    return 1;
+    return ENDED_WELL;
 }
 
-int take_datagram(input *into, int hex) { return take(into) && (!hex || from_hex(into)); }
+int take_datagram(input *into, int hex) {
+    int taken = take(into);
+    return taken == ENDED_WELL && hex ? from_hex(into) : taken;
+}

@@ -3,21 +3,12 @@
 #include "tool.h"
 #include <stdio.h>
 
-/* The bits of a link's slot burst, or 0 where it has none. */
-static unsigned burst_of(unsigned link) {
-    switch (link) {
-#define BURST(number, burst) case number: return burst;
-        DECKLEWREN_SLOT_LINKS(BURST)
-    default: return 0;
-    }
-}
-
 static void put_link(unsigned link, unsigned held, unsigned image) {
     printf("%4u %5u %6u ", link, held, image);
-    if (burst_of(link) == 0) {
+    if (decklewren_burst(link) == 0) {
         printf("%6s\n", "-");
     } else {
-        printf("%6u\n", burst_of(link));
+        printf("%6zu\n", decklewren_burst(link));
     }
 }
 
@@ -26,5 +17,5 @@ int run_links(const request *asked) {
     printf("%4s %5s %6s %6s\n", "link", "bytes", "image", "burst");
 #define LINK(number, held, image) put_link(number, held, image);
     DECKLEWREN_LINKS(LINK)
-    return ENDED_WELL;
+    return end_well(NULL);
 }

@@ -1,5 +1,6 @@
-/* Standard output: a row of bits or a datagram. Standard error: a refusal by number and in words. */
+/* Standard output: a row of bits or a datagram, and the end of a command that went well. */
 #include "tool.h"
+#include <stdarg.h>
 #include <stdio.h>
 
 /* Bits as one line of characters 0 and 1. */
@@ -22,29 +23,16 @@ void put_datagram(const uint8_t *datagram, size_t count, int hex) {
     putchar('\n');
 }
 
-/* Document 01, "Numbers a caller gets back". */
-static const char *words_of(uint32_t status) {
-    switch (status) {
-    case DECKLEWREN_NOT_OFFERED: return "link not offered; number above 63 for a link word; slot burst not of link 5, 6, 7";
-    case DECKLEWREN_WRONG_LENGTH: return "datagram longer than the link holds; link word, block or slot burst of the wrong length";
-    case DECKLEWREN_NO_ROOM: return "output buffer too short";
-    case DECKLEWREN_NO_BIT: return "a byte neither 0 nor 1";
-    case DECKLEWREN_NO_TRAINING: return "training differs";
-    case DECKLEWREN_NO_WORD: return "no code word within seven";
-    case DECKLEWREN_NO_BLOCK: return "no valid block's image within one";
-    case DECKLEWREN_PAST_END: return "position past the end";
-    case DECKLEWREN_BROKEN_MESSAGE: return "fewer than 3 bytes left, length below 7, or message past the end";
-    case DECKLEWREN_BROKEN_FILL: return "fill holds another byte";
-    default: return "a number that document 01 does not give";
+int end_well(const char *counts, ...) {
+    if (fflush(stdout) != 0 || ferror(stdout)) {
+        fprintf(stderr, "decklewren: standard output cannot be written\n");
+        return NOT_READ_OR_WRITTEN;
     }
-}
-
-int refuse(uint32_t status) {
-    fprintf(stderr, "decklewren: refusal %u: %s\n", (unsigned)status, words_of(status));
-    return REFUSED;
-}
-
-int refuse_at(uint32_t status, size_t position) {
-    fprintf(stderr, "decklewren: refusal %u at %zu: %s\n", (unsigned)status, position, words_of(status));
-    return REFUSED;
+    if (counts != NULL) {
+        va_list values;
+        va_start(values, counts);
+        vfprintf(stderr, counts, values);
+        va_end(values);
+    }
+    return ENDED_WELL;
 }

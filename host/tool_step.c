@@ -3,23 +3,41 @@
 #include "tool.h"
 #include <stdio.h>
 
+/* The byte that fills a datagram behind its messages; 0 does too (document 01). */
+enum { FILL = 81 };
+
 static void put_message(decklewren_step step) {
     printf("%llu %llu\n", (unsigned long long)step.start, (unsigned long long)step.length);
+}
+
+/* What a step that was refused found at its position. */
+static int refuse_step(uint32_t status, const input *datagram, size_t position) {
+    if (status == DECKLEWREN_PAST_END) {
+        return refuse_at(status, position, "the datagram has %zu bytes", datagram->count);
+    }
+    const uint8_t *at = datagram->bytes + position;
+    size_t left = datagram->count - position, place = 0;
+    if (status == DECKLEWREN_BROKEN_FILL) {
+        while (at[place] == 0 || at[place] == FILL) place++;
+        return refuse_at(status, position, "the byte at %zu is %u", position + place, at[place]);
+    }
+    if (left < 3) {
+        return refuse_at(status, position, "%zu of 3 bytes left", left);
+    }
+    return refuse_at(status, position, "the message declares %u bytes, %zu are left", at[1] * 256u + at[2], left);
 }
 
 static int run_one_step(const input *datagram, uint64_t asked) {
     size_t position = asked < SIZE_MAX ? (size_t)asked : SIZE_MAX;
     decklewren_step step = decklewren_step_message(datagram->bytes, datagram->count, position);
     if (step.status != DECKLEWREN_DONE) {
-        return refuse_at(step.status, position);
+        return refuse_step(step.status, datagram, position);
     }
     if (step.length == 0) {
-        fprintf(stderr, "count=0 finished=%zu\n", position);
-        return ENDED_WELL;
+        return end_well("count=0 finished=%zu\n", position);
     }
     put_message(step);
-    fprintf(stderr, "count=1\n");
-    return ENDED_WELL;
+    return end_well("count=1\n");
 }
 
 /* Steps from message to message. What ends the walk is answered; `found` and `position` tell how many messages there were and
@@ -46,17 +64,17 @@ static int run_walk(const input *datagram) {
     size_t position;
     decklewren_step last = walk(datagram, 0, &found, &position);
     if (last.status != DECKLEWREN_DONE) {
-        return refuse_at(last.status, position);
+        return refuse_step(last.status, datagram, position);
     }
     walk(datagram, 1, &found, &position);
-    fprintf(stderr, "count=%u finished=%zu\n", found, position);
-    return ENDED_WELL;
+    return end_well("count=%u finished=%zu\n", found, position);
 }
 
 int run_step(const request *asked) {
     static input datagram;
-    if (!take_datagram(&datagram, asked->hex)) {
-        return REFUSED;
+    int taken = take_datagram(&datagram, asked->hex);
+    if (taken != ENDED_WELL) {
+        return taken;
     }
-    return asked->has_number ? run_one_step(&datagram, asked->number) : run_walk(&datagram);
+    return asked->typed != NULL ? run_one_step(&datagram, asked->number) : run_walk(&datagram);
 }

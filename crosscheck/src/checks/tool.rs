@@ -4,7 +4,7 @@ use crate::harness::ordered_faults;
 use crate::harness::program::Run;
 use crate::harness::report::{named_tests, Given, NamedTest, Test};
 use crate::harness::samples::{burst_of, image_of, random_datagram, two_places, SLOT_SIZES};
-use crate::harness::tool::{done, hex_line, line, refused, refused_at, runs};
+use crate::harness::tool::{done, hex_line, line, refused_at, refused_bits, refused_for, runs};
 use crate::second::bits::{bits, inverted};
 use crate::second::messages::{step, Step};
 use crate::second::slots::{HEAD, SLOT_LINKS, TRAINING};
@@ -57,7 +57,8 @@ fn tool_writes_words(given: &Given, test: &mut Test) {
         runs(given, test, &format!("word {number}"), b"", expected);
     }
     for number in TOO_LARGE {
-        runs(given, test, &format!("word {number}"), b"", refused(1));
+        let expected = refused_for(1, format!("{number} was asked for"));
+        runs(given, test, &format!("word {number}"), b"", expected);
     }
 }
 
@@ -81,18 +82,26 @@ fn tool_reads_words(given: &Given, test: &mut Test) {
     for row in rows {
         let expected = match words.read(&row) {
             Ok(Reading { number, wrong }) => done(format!("{number}\n"), format!("wrong={wrong}")),
-            Err(number) => refused(number),
+            Err(number) => refused_bits(number, &row, "a link word", 32),
         };
         runs(given, test, "read-word", &line(&row), expected);
     }
 }
 
-/// What a writing command is to show.
-fn written(expected: Result<Vec<u8>, Refusal>) -> Run {
+/// What a writing command is to show for a datagram on a link that holds so many bytes.
+fn written(expected: Result<Vec<u8>, Refusal>, link: u32, came: usize, held: usize) -> Run {
     match expected {
         Ok(row) => done(line(&row), format!("count={}", row.len())),
-        Err(number) => refused(number),
+        Err(number) => refused_for(
+            number,
+            format!("{came} bytes came, link {link} holds {held}"),
+        ),
     }
+}
+
+/// What a command is to show for a link that it does not have.
+fn no_link(link: &str) -> Run {
+    refused_for(1, format!("link {link} was asked for"))
 }
 
 /// On every link the empty datagram, a full one, a random one and one that is a byte too long, as
@@ -104,7 +113,10 @@ fn tool_writes_blocks(given: &Given, test: &mut Test) {
         let part = random.below(link.bytes());
         for length in [0, part, link.bytes(), link.bytes() + 1] {
             let datagram = random.bytes(length);
-            let expected = || written(second.write_block(link.number, &datagram, usize::MAX));
+            let expected = || {
+                let row = second.write_block(link.number, &datagram, usize::MAX);
+                written(row, link.number, length, link.bytes())
+            };
             let command = format!("write {}", link.number);
             runs(given, test, &command, &datagram, expected());
             let digits = hex_line(&datagram);
@@ -114,7 +126,7 @@ fn tool_writes_blocks(given: &Given, test: &mut Test) {
     }
     for number in ["0", "4", "24"].into_iter().chain(TOO_LARGE) {
         let command = format!("write {number}");
-        runs(given, test, &command, &[7; 6000], refused(1));
+        runs(given, test, &command, &[7; 6000], no_link(number));
     }
 }
 
@@ -137,7 +149,11 @@ fn tool_reads_blocks(given: &Given, test: &mut Test) {
                     let digits = hex_line(&read.datagram);
                     (done(read.datagram, counts.clone()), done(digits, counts))
                 }
-                Err(number) => (refused(number), refused(number)),
+                Err(number) => {
+                    let what = format!("the image of link {}", link.number);
+                    let refused = || refused_bits(number, &row, &what, link.image_length());
+                    (refused(), refused())
+                }
             };
             let command = format!("read {}", link.number);
             runs(given, test, &command, &line(&row), bytes);
@@ -150,7 +166,7 @@ fn tool_reads_blocks(given: &Given, test: &mut Test) {
             test,
             &format!("read {number}"),
             &line(&[0; 394]),
-            refused(1),
+            no_link(number),
         );
     }
 }
@@ -161,7 +177,8 @@ fn tool_writes_slots(given: &Given, test: &mut Test) {
     for (number, bytes, _) in SLOT_SIZES {
         for length in [0, 1, bytes - 1, bytes, bytes + 1] {
             let datagram = random.bytes(length);
-            let expected = written(second.write_slot(number, &datagram, usize::MAX));
+            let row = second.write_slot(number, &datagram, usize::MAX);
+            let expected = written(row, number, length, bytes);
             runs(
                 given,
                 test,
@@ -177,7 +194,7 @@ fn tool_writes_slots(given: &Given, test: &mut Test) {
             test,
             &format!("write-slot {number}"),
             b"",
-            refused(1),
+            no_link(number),
         );
     }
 }
@@ -192,8 +209,31 @@ fn slot_read(second: &Second, burst: &[u8]) -> Run {
             let counts = format!("{counts} link={link} word_wrong={word_wrong}");
             done(hex_line(&datagram), counts)
         }
-        Err(number) => refused(number),
+        Err(number) => slot_refused(second, burst, number),
     }
+}
+
+/// What a refused slot burst is to show: its head's length or its link's, the link that its word
+/// names, or how many bits of its training differ and which is the first.
+fn slot_refused(second: &Second, burst: &[u8], number: Refusal) -> Run {
+    if burst.len() < HEAD {
+        return refused_bits(number, burst, "the head of a slot burst", HEAD);
+    }
+    let training = bits(&second.training);
+    let wrong: Vec<usize> = (0..TRAINING).filter(|&n| burst[n] != training[n]).collect();
+    if number == 5 {
+        let (count, first) = (wrong.len(), wrong[0] + 1);
+        let got = format!("{count} of 54 bits differ, the first is character {first}");
+        return refused_for(5, got);
+    }
+    let link = second.words.read(&burst[TRAINING..HEAD]);
+    let link = link.map_or(0, |word| word.number);
+    if number == 1 {
+        return refused_for(1, format!("the link word names link {link}"));
+    }
+    let size = SLOT_SIZES.iter().find(|size| size.0 == link);
+    let what = format!("a slot burst of link {link}");
+    refused_bits(number, burst, &what, size.map_or(0, |size| size.2))
 }
 
 /// Bursts with up to eight places of the word wrong, and with one or two of the block.
@@ -235,9 +275,33 @@ fn walked(datagram: &[u8]) -> Run {
                 position = start + length;
             }
             Ok(Step::Finished) => return done(lines, format!("count={count} finished={position}")),
-            Err(number) => return refused_at(number, position),
+            Err(number) => return step_refused(number, datagram, position),
         }
     }
+}
+
+/// What a refused step is to show: how many bytes there are, what the message declares, or which
+/// byte is no fill.
+fn step_refused(number: Refusal, datagram: &[u8], position: usize) -> Run {
+    if number == 8 {
+        let got = format!("the datagram has {} bytes", datagram.len());
+        return refused_at(8, position, got);
+    }
+    let rest = &datagram[position..];
+    let got = match (number, rest) {
+        (10, _) => {
+            let other = rest.iter().position(|&byte| byte != 0 && byte != 81);
+            let place = other.expect("a byte is no fill");
+            format!("the byte at {} is {}", position + place, rest[place])
+        }
+        (_, [_, high, low, ..]) => {
+            let declared = usize::from(*high) * 256 + usize::from(*low);
+            let left = rest.len();
+            format!("the message declares {declared} bytes, {left} are left")
+        }
+        _ => format!("{} of 3 bytes left", rest.len()),
+    };
+    refused_at(number, position, got)
 }
 
 /// P11 and P12, last spring's lie, and rows of random messages that end well or not.
@@ -247,6 +311,7 @@ fn tool_walks_messages(given: &Given, test: &mut Test) {
     let mut datagrams: Vec<Vec<u8>> = [7, 8, 9, 6].map(with_length).to_vec();
     datagrams.extend([vec![], vec![81; 9], vec![0, 0, 1], vec![74, 0]]);
     datagrams.push([&[93, 3, 132, 0, 0, 0, 1][..], &[0; 25]].concat());
+    datagrams.push(vec![74, 0, 7, 0, 0, 0, 1, 81, 0, 5]);
     for _ in 0..40 {
         let mut datagram = Vec::new();
         for _ in 0..random.below(9) {
@@ -278,7 +343,7 @@ fn tool_steps_at_positions(given: &Given, test: &mut Test) {
                 done(format!("{start} {length}\n"), "count=1".to_string())
             }
             Ok(Step::Finished) => done("", format!("count=0 finished={position}")),
-            Err(number) => refused_at(number, position),
+            Err(number) => step_refused(number, &datagram, position),
         };
         runs(
             given,

@@ -3,7 +3,7 @@
 
 use crate::harness::program::{run, Input, Run};
 use crate::harness::report::{named_tests, Given, NamedTest, Test};
-use crate::harness::tool::{done, ended, hex_line, line, not_taken, refused, refused_at, runs};
+use crate::harness::tool::{done, ended, hex_line, line, not_taken, refused_at, refused_for, runs};
 use crate::second::bits::inverted;
 use std::collections::BTreeSet;
 use std::path::Path;
@@ -20,26 +20,34 @@ pub const TESTS: &[NamedTest] = named_tests![
     tool_works_in_pipes,
     tool_runs_the_pipe_of_the_readme,
     tool_fails_where_output_fails,
+    tool_tells_its_version,
 ];
 
 const WORD_OF_5: &str = "11010101111011010111111010111111";
 
-/// One newline at the end is no bit; every other character is one of the row.
+/// One newline at the end is no bit; every other character is one of the row, and is told.
 fn tool_drops_one_newline(given: &Given, test: &mut Test) {
     let read = || done("5\n", "wrong=0".to_string());
+    let longer = |other| {
+        let got = "33 characters came, a link word has 32 bits; character 33 is";
+        refused_for(2, format!("{got} {other}"))
+    };
     for (behind, expected) in [
         ("", read()),
         ("\n", read()),
-        ("\n\n", refused(2)),
-        ("\r\n", refused(2)),
-        (" ", refused(2)),
+        ("\n\n", longer("a newline")),
+        ("\r\n", longer("a carriage return")),
+        ("\t", longer("a tab")),
+        (" ", longer("a blank")),
     ] {
         let text = format!("{WORD_OF_5}{behind}");
         runs(given, test, "read-word", text.as_bytes(), expected);
     }
     let crlf = format!("{}\r\n", &WORD_OF_5[1..]);
-    runs(given, test, "read-word", crlf.as_bytes(), refused(4));
-    runs(given, test, "read-word", b"\n", refused(2));
+    let expected = refused_for(4, "character 32 is a carriage return");
+    runs(given, test, "read-word", crlf.as_bytes(), expected);
+    let expected = refused_for(2, "0 bits came, a link word has 32");
+    runs(given, test, "read-word", b"\n", expected);
 }
 
 /// Large and small digits, with spaces and newlines between bytes, and no byte at all.
@@ -95,16 +103,25 @@ fn tool_takes_64_kib(given: &Given, test: &mut Test) {
         test,
         "step",
         &vec![74; most],
-        refused_at(9, behind_three),
+        refused_at(
+            9,
+            behind_three,
+            "the message declares 19018 bytes, 8482 are left",
+        ),
     );
-    for (command, refusal) in [
-        ("read-word", 2),
-        ("read 5", 2),
-        ("read-slot", 5),
-        ("write 5", 2),
-        ("write-slot 5", 2),
+    for (command, refusal, got) in [
+        ("read-word", 2, "65536 bits came, a link word has 32"),
+        ("read 5", 2, "65536 bits came, the image of link 5 has 394"),
+        (
+            "read-slot",
+            5,
+            "28 of 54 bits differ, the first is character 1",
+        ),
+        ("write 5", 2, "65536 bytes came, link 5 holds 32"),
+        ("write-slot 5", 2, "65536 bytes came, link 5 holds 32"),
     ] {
-        runs(given, test, command, &vec![b'0'; most], refused(refusal));
+        let expected = refused_for(refusal, got);
+        runs(given, test, command, &vec![b'0'; most], expected);
         for length in [most + 1, 100_000] {
             runs(given, test, command, &vec![b'0'; length], too_long());
         }
@@ -182,8 +199,15 @@ fn tool_refuses_to_damage(given: &Given, test: &mut Test) {
         b"0101",
         too_few(4),
     );
-    for (text, place) in [("012", 3), ("x", 1), ("01\n\n", 3), ("0 1", 2), ("\x01", 1)] {
-        let words = format!("character {place} of standard input is neither 0 nor 1");
+    for (text, place, name) in [
+        ("012", 3, "'2'"),
+        ("x", 1, "'x'"),
+        ("01\n\n", 3, "a newline"),
+        ("01\r\n", 3, "a carriage return"),
+        ("0 1", 2, "a blank"),
+        ("\x01", 1, "byte 0x01"),
+    ] {
+        let words = format!("character {place} of standard input is {name}, neither 0 nor 1");
         runs(given, test, "damage 0", text.as_bytes(), not_taken(words));
     }
 }
@@ -193,6 +217,8 @@ fn tool_helps(given: &Given, test: &mut Test) {
     for arguments in [
         &["--help"][..],
         &["-h"],
+        &["help"],
+        &["help", "write"],
         &["write", "--help"],
         &["nothing", "-h"],
     ] {
@@ -207,6 +233,7 @@ fn tool_helps(given: &Given, test: &mut Test) {
             "read-slot",
             "step [POSITION]",
             "damage N [--seed S]",
+            "help",
         ];
         let missing: Vec<&str> = commands
             .into_iter()
@@ -221,33 +248,43 @@ fn tool_helps(given: &Given, test: &mut Test) {
 
 fn tool_refuses_wrong_usage(given: &Given, test: &mut Test) {
     for (arguments, words) in [
-        ("nothing", "no command nothing"),
-        ("-x", "no command -x"),
+        ("nothing", "there is no command 'nothing'"),
+        ("-x", "there is no command '-x'"),
         ("write", "a number is missing behind write"),
         ("read -x", "a number is missing behind read"),
         ("word", "a number is missing behind word"),
         ("damage --seed 5", "a number is missing behind damage"),
-        ("word five", "cannot take five"),
-        ("word -5", "cannot take -5"),
-        ("word +5", "cannot take +5"),
-        ("word 5x", "cannot take 5x"),
-        ("word 0x5", "cannot take 0x5"),
-        ("word 5 5", "cannot take 5"),
-        ("word 5 -x", "cannot take -x"),
-        ("read-word 5", "cannot take 5"),
-        ("read-slot 5", "cannot take 5"),
-        ("links 5", "cannot take 5"),
-        ("damage 1 -x", "cannot take -x"),
-        ("damage 1 --seed", "cannot take --seed"),
-        ("damage 1 --seed x", "cannot take --seed"),
-        ("write 5 --seed 1", "cannot take --seed"),
+        ("word five", "word takes a number, and 'five' is none"),
+        ("word -5", "word takes a number, and '-5' is none"),
+        ("word +5", "word takes a number, and '+5' is none"),
+        ("word 5x", "word takes a number, and '5x' is none"),
+        ("word 0x5", "word takes a number, and '0x5' is none"),
+        ("word 5 6", "word takes one number, and '6' is a second"),
+        ("word 5 -x", "word does not take -x"),
+        ("read-word 5", "read-word does not take '5'"),
+        ("read-slot 5", "read-slot does not take '5'"),
+        ("links 5", "links does not take '5'"),
+        ("links --version", "links does not take '--version'"),
+        ("step help", "step takes a number, and 'help' is none"),
+        ("damage 1 -x", "damage does not take -x"),
+        ("damage 1 --seed", "a number is missing behind --seed"),
+        (
+            "damage 1 --seed x",
+            "--seed takes a number, and 'x' is none",
+        ),
+        ("write 5 --seed 1", "write does not take --seed"),
     ] {
         let errors = format!("decklewren: {words}\nTry 'decklewren --help'.\n");
         runs(given, test, arguments, b"0", ended(2, &[], errors));
     }
     let seen = run(&given.tool, &[], Input::whole(""), 0);
     let usage = seen.errors.starts_with("usage: decklewren ");
-    let shown = (seen.output, usage, seen.exit);
+    let fault = "\ndecklewren: a command is missing\nTry 'decklewren --help'.\n";
+    let shown = (
+        seen.output,
+        usage && seen.errors.ends_with(fault),
+        seen.exit,
+    );
     test.case(
         || "no argument".into(),
         (String::new(), true, Some(2)),
@@ -309,20 +346,55 @@ fn tool_runs_the_pipe_of_the_readme(given: &Given, test: &mut Test) {
     test.case(|| "the README's pipe".into(), expected, [printed]);
 }
 
-/// A full disk is told, for short and long outputs, and a closed input too.
+/// Input or output that fails is told by an exit status of its own, and nothing is told as done: one
+/// line on standard error, for short and long outputs, for one that is closed, and for input.
 fn tool_fails_where_output_fails(given: &Given, test: &mut Test) {
+    let output = "decklewren: standard output cannot be written\n";
+    let input = "decklewren: standard input cannot be read\n";
     for (script, words) in [
-        ("D word 5 2>&1 >/dev/full", "output cannot be written"),
+        ("D word 5 2>&1 >/dev/full", output),
+        ("D word 5 2>&1 >&-", output),
+        ("D links 2>&1 >/dev/full", output),
+        ("D write 33 </dev/null 2>&1 >/dev/full", output),
+        ("D write 33 </dev/null | D read 33 2>&1 >/dev/full", output),
+        ("D write-slot 6 </dev/null 2>&1 >/dev/full", output),
         (
-            "D write 33 </dev/null 2>&1 >/dev/full",
-            "output cannot be written",
+            "D write-slot 6 </dev/null | D read-slot -x 2>&1 >/dev/full",
+            output,
         ),
-        ("D --help 2>&1 >/dev/full", "output cannot be written"),
-        ("D step 2>&1 </", "input cannot be read"),
-        ("D read-word 2>&1 <&-", "input cannot be read"),
+        ("D word 5 | D read-word 2>&1 >/dev/full", output),
+        ("D word 5 | D damage 3 2>&1 >/dev/full", output),
+        ("printf 4a000700000001 | D step -x 2>&1 >/dev/full", output),
+        (
+            "printf 4a000700000001 | D step -x 0 2>&1 >/dev/full",
+            output,
+        ),
+        ("D --help 2>&1 >/dev/full", output),
+        ("D --version 2>&1 >/dev/full", output),
+        ("D step 2>&1 </", input),
+        ("D read-word 2>&1 <&-", input),
     ] {
-        let (output, exit) = shell(given, script);
-        let told = output.ends_with(&format!("decklewren: standard {words}\n"));
-        test.case(|| script.into(), (true, Some(1)), [(told, exit)]);
+        let shown = shell(given, script);
+        test.case(|| script.into(), (words.to_string(), Some(3)), [shown]);
     }
+}
+
+/// The version is that of the header that the tool was made with.
+fn tool_tells_its_version(given: &Given, test: &mut Test) {
+    let header = include_str!(concat!(
+        env!("CARGO_MANIFEST_DIR"),
+        "/../include/decklewren.h"
+    ));
+    let of = |part: &str| {
+        let name = format!("#define DECKLEWREN_VERSION_{part} ");
+        let line = header.lines().find_map(|line| line.strip_prefix(&name));
+        line.expect("the header has the version").to_string()
+    };
+    let version = ["MAJOR", "MINOR", "PATCH"].map(of).join(".");
+    let expected = ended(
+        0,
+        format!("decklewren {version}\n").as_bytes(),
+        String::new(),
+    );
+    runs(given, test, "--version", b"", expected);
 }

@@ -4,6 +4,7 @@
 use crate::harness::program::{as_characters, run, Input, Run};
 use crate::harness::report::{Given, Test};
 use crate::second::words::Refusal;
+use std::fmt::Display;
 
 /// Document 01, "Numbers a caller gets back": the words of the refusals 1 to 10.
 const WORDS: [&str; 10] = [
@@ -24,15 +25,49 @@ pub fn done(output: impl AsRef<[u8]>, counts: String) -> Run {
     ended(0, output.as_ref(), format!("{counts}\n"))
 }
 
-/// A run that ends with a refusal of the library.
+/// A run that ends with a refusal of the library of which there is no more to say.
 pub fn refused(number: Refusal) -> Run {
     let words = WORDS[number as usize - 1];
     not_taken(format!("refusal {number}: {words}"))
 }
 
-pub fn refused_at(number: Refusal, position: usize) -> Run {
+/// A run that ends with a refusal and says what was got and what was needed.
+pub fn refused_for(number: Refusal, got: impl Display) -> Run {
     let words = WORDS[number as usize - 1];
-    not_taken(format!("refusal {number} at {position}: {words}"))
+    not_taken(format!("refusal {number}: {words} ({got})"))
+}
+
+pub fn refused_at(number: Refusal, position: usize, got: impl Display) -> Run {
+    let words = WORDS[number as usize - 1];
+    not_taken(format!("refusal {number} at {position}: {words} ({got})"))
+}
+
+/// A refusal of bits, where `what` has so many of them: their length, or the first that is none.
+pub fn refused_bits(number: Refusal, row: &[u8], what: &str, needed: usize) -> Run {
+    let came = row.len();
+    match (number, other_character(row)) {
+        (2, None) => refused_for(2, format!("{came} bits came, {what} has {needed}")),
+        (2, Some(other)) => {
+            let got = format!("{came} characters came, {what} has {needed} bits");
+            refused_for(2, format!("{got}; {other}"))
+        }
+        (4, Some(other)) => refused_for(4, other),
+        _ => refused(number),
+    }
+}
+
+/// The first byte that is no bit, by its place and as the character that `line` makes of it.
+fn other_character(row: &[u8]) -> Option<String> {
+    let place = row.iter().position(|&bit| bit > 1)?;
+    let name = match row[place].wrapping_add(b'0') {
+        b' ' => "a blank".to_string(),
+        b'\t' => "a tab".to_string(),
+        b'\n' => "a newline".to_string(),
+        b'\r' => "a carriage return".to_string(),
+        sign @ 33..=126 => format!("'{}'", char::from(sign)),
+        byte => format!("byte 0x{byte:02x}"),
+    };
+    Some(format!("character {} is {name}", place + 1))
 }
 
 /// A run that the tool itself refuses, with these words.
