@@ -1,39 +1,66 @@
 # make run: the link word printer on document 01's example, the example of the README in C, and an ice notice through its day.
 # make tool: build/decklewren, the command line tool.
-# make install: header, archive and pkg-config file below PREFIX; DESTDIR stands before it where a package is staged.
-# make check-install: installs both ways below build/ and compiles the README's example against each tree.
-# make test: the gate, as .ci/run runs it.
+# make install: header, archive, pkg-config file and tool below PREFIX (/usr/local); DESTDIR stands before it where a package is staged.
+# make uninstall: removes these four files, for the same PREFIX and DESTDIR.
+# make check-install: installs both ways below build/, compiles the README's example against each tree and removes it again.
+# make test: the gate, as .ci/run runs it; ends 'N passed, 0 failed'.
 # make refusals: the first error of each must-fail edit, from the logs of the last gate.
 # make soak: not in the gate. CALLS calls of each kind, random, damaged and lying, the archive against the second implementation.
 # make bench: nanoseconds per block and ratios to a plain writer in C, measured in one run.
-.PHONY: run tool install check-install test refusals soak bench
+# make stack: bytes of stack that each call takes, against what the header says.
+# make picture: draws docs/slot-burst.svg again, from the header's numbers.
+# make clean: removes build/; the proofs and the archive in target/ stay.
+# make help: these lines. CC and CFLAGS are the caller's where they are given.
+.PHONY: help run tool install uninstall check-install test refusals soak bench stack picture clean prefix
+.DEFAULT_GOAL := help
 
-CC ?= gcc
-CFLAGS = -std=c11 -O2 -Wall -Wextra -Wpedantic -Werror
+ifeq ($(origin CC),default)
+CC = gcc
+endif
+CFLAGS ?= -O2 -Wall -Wextra -Wpedantic
+COMPILE = $(CC) -std=c11 $(CPPFLAGS) $(CFLAGS) -Iinclude
 ARCHIVE = target/staticlib/libdecklewren.a
-VERSION = 0.1.0
+HEADER = include/decklewren.h
+VERSION = $(shell awk '/^.define DECKLEWREN_VERSION_/ {text = text dot $$3; dot = "."} END {print text}' $(HEADER))
 PREFIX ?= /usr/local
 INSTALLED = $(DESTDIR)$(PREFIX)
+NEED_RT = command -v rt >/dev/null || { echo "rt, the Rattle toolchain, is not on PATH; see README, Setting up" >&2; exit 1; }
+
+help:
+	@sed -n 's/^# make /make /p' Makefile
 
 run: build/example build/ice_notice
-	@rt check link_word_printer >build/printer.log 2>&1 || { cat build/printer.log; exit 1; }
+	@$(NEED_RT)
+	@bash host/prove.sh build/printer.log rt check link_word_printer
 	target/bin/link_word_printer <crates/link_word_printer/stdin
 	build/example
 	build/ice_notice
 
-build/example build/ice_notice: build/%: host/%.c include/decklewren.h $(ARCHIVE) | build
-	$(CC) $(CFLAGS) -Iinclude $< $(ARCHIVE) -o $@
+build/example build/ice_notice: build/%: host/%.c $(HEADER) $(ARCHIVE) | build
+	$(COMPILE) $< $(ARCHIVE) $(LDFLAGS) -o $@
 
 tool: build/decklewren
 
-build/decklewren: $(wildcard host/tool*.c) host/tool.h include/decklewren.h $(ARCHIVE) | build
-	$(CC) $(CFLAGS) -Iinclude $(filter %.c,$^) $(ARCHIVE) -o $@
+build/decklewren: $(wildcard host/tool*.c) host/tool.h $(HEADER) $(ARCHIVE) | build
+	$(COMPILE) $(filter %.c,$^) $(ARCHIVE) $(LDFLAGS) -o $@
 
-install: $(ARCHIVE)
-	install -d "$(INSTALLED)/include" "$(INSTALLED)/lib/pkgconfig"
-	install -m 644 include/decklewren.h "$(INSTALLED)/include/decklewren.h"
+install: prefix build/decklewren
+	install -d "$(INSTALLED)/include" "$(INSTALLED)/lib/pkgconfig" "$(INSTALLED)/bin"
+	install -m 644 $(HEADER) "$(INSTALLED)/include/decklewren.h"
 	install -m 644 $(ARCHIVE) "$(INSTALLED)/lib/libdecklewren.a"
 	sed -e 's|@PREFIX@|$(PREFIX)|' -e 's|@VERSION@|$(VERSION)|' host/decklewren.pc.in >"$(INSTALLED)/lib/pkgconfig/decklewren.pc"
+	install -m 755 build/decklewren "$(INSTALLED)/bin/decklewren"
+
+uninstall: prefix
+	rm -f "$(INSTALLED)/include/decklewren.h" "$(INSTALLED)/lib/libdecklewren.a"
+	rm -f "$(INSTALLED)/lib/pkgconfig/decklewren.pc" "$(INSTALLED)/bin/decklewren"
+
+# PREFIX and DESTDIR as they were typed: make itself would expand a dollar sign in them, and does so where it exports them.
+unexport PREFIX DESTDIR
+prefix: export TYPED_PREFIX = $(value PREFIX)
+prefix: export TYPED_DESTDIR = $(value DESTDIR)
+prefix:
+	@bash host/check_prefix.sh
 
 check-install:
 	rm -rf build/installed build/staged
@@ -41,14 +68,20 @@ check-install:
 	$(MAKE) install DESTDIR="$(CURDIR)/build/staged" PREFIX=/opt/decklewren
 	bash host/check_install.sh "" "$(CURDIR)/build/installed" $(VERSION)
 	bash host/check_install.sh "$(CURDIR)/build/staged" /opt/decklewren $(VERSION)
+	$(MAKE) uninstall DESTDIR= PREFIX="$(CURDIR)/build/installed"
+	$(MAKE) uninstall DESTDIR="$(CURDIR)/build/staged" PREFIX=/opt/decklewren
+	! find build/installed build/staged -type f | grep .
+	bash host/check_prefixes.sh $(VERSION)
 
 $(ARCHIVE): crates.txt $(wildcard crates/*/src/*.rt) | build
-	rt staticlib decklewren >build/staticlib.log
+	@$(NEED_RT)
+	@bash host/prove.sh build/staticlib.log rt staticlib decklewren
 
 build:
 	mkdir -p build
 
 test:
+	@$(NEED_RT)
 	bash .ci/run
 
 refusals:
@@ -64,5 +97,20 @@ soak: $(ARCHIVE)
 bench: build/bench
 	build/bench
 
-build/bench: bench/bench.c bench/plain.c bench/plain.h include/decklewren.h $(ARCHIVE) | build
-	$(CC) $(CFLAGS) -O3 -pthread -Iinclude bench/bench.c bench/plain.c $(ARCHIVE) -o $@
+build/bench: bench/bench.c bench/plain.c bench/plain.h $(HEADER) $(ARCHIVE) | build
+	$(COMPILE) -O3 -pthread bench/bench.c bench/plain.c $(ARCHIVE) $(LDFLAGS) -o $@
+
+stack: build/stack
+	build/stack
+
+build/stack: bench/stack.c $(HEADER) $(ARCHIVE) | build
+	$(COMPILE) bench/stack.c $(ARCHIVE) $(LDFLAGS) -o $@
+
+picture: build/draw_burst
+	build/draw_burst >docs/slot-burst.svg
+
+build/draw_burst: host/draw_burst.c $(HEADER) | build
+	$(COMPILE) $< $(LDFLAGS) -o $@
+
+clean:
+	rm -rf build
