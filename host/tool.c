@@ -20,7 +20,7 @@ static const char help[] =
     "\n"
     "Input comes from standard input, at most 64 KiB. Bits are characters 0 and 1 and end with a newline; one newline at\n"
     "the end of the input is no bit. Datagrams are bytes, or hexadecimal digits with -x. Counts go to standard error, once\n"
-    "the output is written.\n"
+    "the output is written. Places and positions count from 0, characters of the input from 1.\n"
     "Exit status: 0 done; 1 refused, with the reason on standard error and nothing on standard output; 2 wrong usage;\n"
     "3 standard input cannot be read or standard output cannot be written.\n";
 

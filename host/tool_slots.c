@@ -46,8 +46,7 @@ static int refuse_training(const input *bits) {
             first = place;
         }
     }
-    return refuse(DECKLEWREN_NO_TRAINING, "%zu of %u bits differ, the first is character %zu", differ, DECKLEWREN_TRAINING_BITS,
-                  first + 1);
+    return refuse(DECKLEWREN_NO_TRAINING, "%zu of %u bits differ, the first at place %zu", differ, DECKLEWREN_TRAINING_BITS, first);
 }
 
 static int refuse_slot(uint32_t status, const input *bits) {

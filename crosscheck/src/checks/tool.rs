@@ -222,8 +222,8 @@ fn slot_refused(second: &Second, burst: &[u8], number: Refusal) -> Run {
     let training = bits(&second.training);
     let wrong: Vec<usize> = (0..TRAINING).filter(|&n| burst[n] != training[n]).collect();
     if number == 5 {
-        let (count, first) = (wrong.len(), wrong[0] + 1);
-        let got = format!("{count} of 54 bits differ, the first is character {first}");
+        let (count, first) = (wrong.len(), wrong[0]);
+        let got = format!("{count} of 54 bits differ, the first at place {first}");
         return refused_for(5, got);
     }
     let link = second.words.read(&burst[TRAINING..HEAD]);

@@ -112,11 +112,7 @@ fn tool_takes_64_kib(given: &Given, test: &mut Test) {
     for (command, refusal, got) in [
         ("read-word", 2, "65536 bits came, a link word has 32"),
         ("read 5", 2, "65536 bits came, the image of link 5 has 394"),
-        (
-            "read-slot",
-            5,
-            "28 of 54 bits differ, the first is character 1",
-        ),
+        ("read-slot", 5, "28 of 54 bits differ, the first at place 0"),
         ("write 5", 2, "65536 bytes came, link 5 holds 32"),
         ("write-slot 5", 2, "65536 bytes came, link 5 holds 32"),
     ] {
@@ -338,12 +334,21 @@ fn tool_works_in_pipes(given: &Given, test: &mut Test) {
     test.case(|| "word 5".into(), ("5\n".to_string(), Some(0)), [printed]);
 }
 
+/// The README's pipe, and its sentence on the seeds of which the one wrong bit is in the training.
 fn tool_runs_the_pipe_of_the_readme(given: &Given, test: &mut Test) {
-    let of_the_readme = "printf '5d 00 0e 0000000100000000 00 6f6b' | D write-slot 6 -x |
-      D damage 1 --seed 7 | D read-slot | D step";
-    let printed = shell(given, of_the_readme);
+    let readme = |seed: u32, last: &str| {
+        let burst = "printf '5d 00 0e 0000000100000000 00 6f6b' | D write-slot 6 -x |";
+        shell(
+            given,
+            &format!("{burst}\n D damage 1 --seed {seed} | {last}"),
+        )
+    };
+    let printed = readme(7, "D read-slot | D step");
     let expected = ("0 14\n".to_string(), Some(0));
     test.case(|| "the README's pipe".into(), expected, [printed]);
+    let refused = (1..=100).filter(|&seed| readme(seed, "D read-slot").1 == Some(1));
+    let call = || "the seeds 1 to 100 that are refused".to_string();
+    test.case(call, vec![3, 29, 58, 99], [refused.collect::<Vec<u32>>()]);
 }
 
 /// Input or output that fails is told by an exit status of its own, and nothing is told as done: one
