@@ -98,7 +98,7 @@ bench: build/bench
 	build/bench
 
 build/bench: bench/bench.c bench/plain.c bench/plain.h $(HEADER) $(ARCHIVE) | build
-	$(COMPILE) -O3 -pthread bench/bench.c bench/plain.c $(ARCHIVE) $(LDFLAGS) -o $@
+	$(COMPILE) -O3 bench/bench.c bench/plain.c $(ARCHIVE) $(LDFLAGS) -o $@
 
 stack: build/stack
 	build/stack

@@ -1,19 +1,16 @@
 /* Compares the library with the plain writer of plain.c, both in one run: nanoseconds per block, median of many rounds, and the
-   ratio. The blocks of a round are all different, so that a processor cannot learn their bits. Also measures the stack that a call
-   needs, by painting it. */
+   ratio. The blocks of a round are all different, so that a processor cannot learn their bits. */
 #define _POSIX_C_SOURCE 200809L
 #include "decklewren.h"
 #include "plain.h"
-#include <pthread.h>
 #include <stdio.h>
 #include <stdlib.h>
 #include <string.h>
 #include <time.h>
 
-enum { ROUNDS = 301, MOST = 200, PAINTED = 262144 };
+enum { ROUNDS = 301, MOST = 200, LONGEST = DECKLEWREN_IMAGE_MOST, HELD = DECKLEWREN_HELD_MOST };
 
-static uint8_t datagrams[MOST][DECKLEWREN_HELD_MOST], came[MOST][DECKLEWREN_IMAGE_MOST], out[DECKLEWREN_HELD_MOST];
-static uint8_t plain_image[DECKLEWREN_IMAGE_MOST], image[DECKLEWREN_IMAGE_MOST];
+static uint8_t datagrams[MOST][HELD], came[MOST][LONGEST], plain_image[LONGEST], image[LONGEST], out[HELD];
 static size_t came_length;
 static decklewren_block block;
 
@@ -50,31 +47,6 @@ static void measure(uint32_t link, size_t held, int blocks, call *measured) {
     qsort(b, ROUNDS, sizeof *b, by_size);
     double plain = a[ROUNDS / 2], proved = b[ROUNDS / 2];
     printf("plain %8.0f ns, proved %8.0f ns, ratio %.2f\n", plain, proved, proved / plain);
-}
-
-static void *call_nothing(void *unused) { return unused; }
-static void *call_write(void *unused) {
-    write_proved(19, DECKLEWREN_HELD_19, 0);
-    return unused;
-}
-
-static void *call_read(void *unused) {
-    read_proved(19, DECKLEWREN_HELD_19, 0);
-    return unused;
-}
-
-/* How much of a painted stack a thread disturbs that makes one call. */
-static size_t disturbed(void *(*call)(void *)) {
-    static _Alignas(4096) uint8_t stack[PAINTED];
-    pthread_attr_t attributes;
-    pthread_t thread;
-    memset(stack, 0xA5, sizeof stack);
-    pthread_attr_init(&attributes);
-    pthread_attr_setstack(&attributes, stack, sizeof stack);
-    if (pthread_create(&thread, &attributes, call, NULL) != 0 || pthread_join(thread, NULL) != 0) exit(1);
-    size_t untouched = 0;
-    while (untouched < sizeof stack && stack[untouched] == 0xA5) untouched++;
-    return sizeof stack - untouched;
 }
 
 static void measure_writing(uint32_t link, size_t held, int blocks) {
@@ -134,9 +106,5 @@ int main(void) {
     measure_writing(19, DECKLEWREN_HELD_19, 10);
     measure_all_reading(5, DECKLEWREN_HELD_5, MOST);
     measure_all_reading(19, DECKLEWREN_HELD_19, 10);
-    size_t none = disturbed(call_nothing);
-    printf("stack of a write: %zu bytes\n", disturbed(call_write) - none);
-    came_length = decklewren_write_block(19, datagrams[0], DECKLEWREN_HELD_19, came[0], sizeof came[0]).count;
-    printf("stack of a read:  %zu bytes\n", disturbed(call_read) - none);
     return 0;
 }

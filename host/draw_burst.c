@@ -1,4 +1,4 @@
-/* Draws docs/slot-burst.svg, the slot bursts of links 5, 6 and 7 with their fields, all to one scale and from the header's numbers. */
+/* Draws docs/slot-burst.svg: the slot bursts of links 5, 6 and 7 with their fields, to one scale, from the header's numbers. */
 #include "decklewren.h"
 #include <stdio.h>
 
@@ -20,7 +20,8 @@ static void put_text(double x, double y, const char *look, const char *text) {
 
 /* A field of this many bits, with its words in the middle. */
 static void put_field(double x, double y, size_t bits, const char *colour, const char *words) {
-    printf("  <rect x=\"%.1f\" y=\"%.1f\" width=\"%.1f\" height=\"%d\" fill=\"%s\" stroke=\"#33415c\"/>\n", x, y, points(bits), BAR, colour);
+    printf("  <rect x=\"%.1f\" y=\"%.1f\" width=\"%.1f\" height=\"%d\" ", x, y, points(bits), BAR);
+    printf("fill=\"%s\" stroke=\"#33415c\"/>\n", colour);
     put_text(x + points(bits) / 2, y + BAR / 2.0 + 4.5, "in", words);
 }
 
@@ -74,7 +75,8 @@ static void put_start(void) {
     printf("  <title>Slot bursts of links 5, 6 and 7, bit by bit to one scale</title>\n");
     printf("  <style>text { fill: #1d2433 } .in { text-anchor: middle; font-size: 12px } .head { font-weight: bold }"
            " .join { fill: none; stroke: #33415c; stroke-dasharray: 4 3 }</style>\n");
-    printf("  <rect x=\"0.5\" y=\"0.5\" width=\"%d\" height=\"%d\" rx=\"8\" fill=\"#ffffff\" stroke=\"#c3c9d5\"/>\n", WIDTH - 1, HEIGHT - 1);
+    printf("  <rect x=\"0.5\" y=\"0.5\" width=\"%d\" height=\"%d\" ", WIDTH - 1, HEIGHT - 1);
+    printf("rx=\"8\" fill=\"#ffffff\" stroke=\"#c3c9d5\"/>\n");
 }
 
 /* What the fields are, below the bursts. */

@@ -1,5 +1,5 @@
-/* Holds every name, size and function of the header to the archive. Compiled as C and as C++; the header comes first, so that it stands
-   alone. The last line counts, 'N passed, M failed'. */
+/* Holds every name, size and function of the header to the archive. Compiled as C and as C++; the header comes first, so that it
+   stands alone. The last line counts, 'N passed, M failed'. */
 #include "decklewren.h"
 #include <stdio.h>
 #include <string.h>
@@ -83,10 +83,12 @@ static void check_sizes(void) {
     for (uint32_t link = 0; link < 1000; link++) {
         size_t image = decklewren_write_block(link, datagram, 0, bits, sizeof bits).count;
         expect("decklewren_image", link, image, decklewren_image(link));
-        expect("decklewren_held", link, decklewren_read_block(link, bits, image, datagram, sizeof datagram).count, decklewren_held(link));
+        size_t held = decklewren_read_block(link, bits, image, datagram, sizeof datagram).count;
+        expect("decklewren_held", link, held, decklewren_held(link));
         expect("decklewren_burst", link, decklewren_write_slot(link, datagram, 0, bits, sizeof bits).count, decklewren_burst(link));
     }
-    expect("decklewren_held, no link", 0, 0, decklewren_held(UINT32_MAX) + decklewren_image(UINT32_MAX) + decklewren_burst(UINT32_MAX));
+    uint32_t none = UINT32_MAX;
+    expect("sizes of no link", none, 0, decklewren_held(none) + decklewren_image(none) + decklewren_burst(none));
 }
 
 /* The link word stands behind the training, and the block behind both. */
@@ -97,7 +99,8 @@ static void check_training(void) {
         decklewren_write_word(link, word, sizeof word);
         decklewren_write_slot(link, datagram, 0, bits, sizeof bits);
         expect("TRAINING_BITS, link", link, 0, (uint64_t)memcmp(bits + DECKLEWREN_TRAINING_BITS, word, sizeof word));
-        expect("parts of a burst, link", link, slot_links[n].burst, DECKLEWREN_TRAINING_BITS + DECKLEWREN_WORD_BITS + slot_links[n].image);
+        size_t parts = DECKLEWREN_TRAINING_BITS + DECKLEWREN_WORD_BITS + slot_links[n].image;
+        expect("parts of a burst, link", link, slot_links[n].burst, parts);
     }
 }
 
