@@ -5,7 +5,7 @@
 # make check-install: installs both ways below build/, compiles the README's example against each tree and removes it again.
 # make test: the gate, as .ci/run runs it; ends 'N passed, 0 failed'.
 # make refusals: the first error of each must-fail edit, from the logs of the last gate.
-# make soak: not in the gate. CALLS calls of each kind, random, damaged and lying, the archive against the second implementation.
+# make soak: not in the gate. CALLS calls of each kind, random, damaged and malformed, the archive against the second implementation.
 # make bench: nanoseconds per block and ratios to a plain writer in C, measured in one run.
 # make stack: bytes of stack that each call takes, against what the header says.
 # make picture: draws docs/slot-burst.svg again, from the header's numbers.

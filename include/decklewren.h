@@ -36,7 +36,7 @@ extern "C" {
 #endif
 
 /* The version, here and nowhere else. MAJOR rises where a program must change or be compiled again (a call, a struct or a name that
-   was there has changed or is gone), MINOR where something is new, PATCH with every other change. */
+   was there has changed or is gone), MINOR where something is new or a call answers otherwise, PATCH with every other change. */
 #define DECKLEWREN_VERSION_MAJOR 0
 #define DECKLEWREN_VERSION_MINOR 2
 #define DECKLEWREN_VERSION_PATCH 0
