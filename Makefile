@@ -76,6 +76,7 @@ check-install:
 $(ARCHIVE): crates.txt $(wildcard crates/*/src/*.rt) | build
 	@$(NEED_RT)
 	@bash host/prove.sh build/staticlib.log rt staticlib decklewren
+	@echo proved decklewren
 
 build:
 	mkdir -p build

@@ -5,16 +5,16 @@
 #include <string.h>
 
 static const char help[] =
-    "usage: decklewren COMMAND [-x]\n"
+    "usage: decklewren COMMAND\n"
     "\n"
     "  links                   the links, the bytes that they hold, the bits of an image and of a slot burst\n"
     "  word N                  writes the link word of a number\n"
     "  read-word               reads a link word and prints its number\n"
-    "  write LINK              writes the image of a datagram's block\n"
-    "  read LINK               reads the image of a block and prints the datagram\n"
-    "  write-slot LINK         writes the slot burst of a datagram\n"
-    "  read-slot               reads a slot burst and prints the datagram\n"
-    "  step [POSITION]         prints start and length of each message of a datagram, or of the one at a position\n"
+    "  write LINK [-x]         writes the image of a datagram's block\n"
+    "  read LINK [-x]          reads the image of a block and prints the datagram\n"
+    "  write-slot LINK [-x]    writes the slot burst of a datagram\n"
+    "  read-slot [-x]          reads a slot burst and prints the datagram\n"
+    "  step [POSITION] [-x]    prints start and length of each message of a datagram, or of the one at a position\n"
     "  damage N [--seed S]     inverts N different bits; the same ones each time for one seed (1 if none is given)\n"
     "  help                    prints this, as --help and -h do; --version prints the version\n"
     "\n"

@@ -75,6 +75,10 @@ static int take_number(const command *called, const char *argument, request *ask
 static int take_next(const command *called, char **arguments, int left, request *asked) {
     if (strcmp(arguments[0], "-x") == 0) return take_hex(called, asked);
     if (strcmp(arguments[0], "--seed") == 0) return take_seed(called, arguments, left, asked);
+    if (strncmp(arguments[0], "--", 2) == 0) {
+        wrong_usage("there is no option '%s'", arguments[0]);
+        return 0;
+    }
     return take_number(called, arguments[0], asked);
 }
 

@@ -6,6 +6,9 @@
 /* The byte that fills a datagram behind its messages; 0 does too (document 01). */
 enum { FILL = 81 };
 
+/* The least length of a message. */
+enum { LEAST = 7 };
+
 static void put_message(decklewren_step step) {
     printf("%llu %llu\n", (unsigned long long)step.start, (unsigned long long)step.length);
 }
@@ -24,7 +27,11 @@ static int refuse_step(uint32_t status, const input *datagram, size_t position) 
     if (left < 3) {
         return refuse_at(status, position, "%zu of 3 bytes left", left);
     }
-    return refuse_at(status, position, "the message declares %u bytes, %zu are left", at[1] * 256u + at[2], left);
+    unsigned declared = at[1] * 256u + at[2];
+    if (declared < LEAST) {
+        return refuse_at(status, position, "the message declares %u bytes, at least %u are needed", declared, LEAST);
+    }
+    return refuse_at(status, position, "the message declares %u bytes, %zu are left", declared, left);
 }
 
 static int run_one_step(const input *datagram, uint64_t asked) {

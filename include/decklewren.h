@@ -60,10 +60,10 @@ extern "C" {
     X(DECKLEWREN_BROKEN_MESSAGE, 9, "fewer than 3 bytes left, length below 7, or message past the end")                              \
     X(DECKLEWREN_BROKEN_FILL, 10, "fill holds another byte")
 
-/* The links that are offered (document 01, "The links"): X(link, bytes of a datagram that it holds, N bits of its image). Two things
-   differ from M.2092-1, because document 01 says so and outranks it: link 20 has 32 check bits in the place of 16, and images have
-   none of the Recommendation's fill bits, which makes N smaller on links 12 (by 3), 13 (8), 14 (30), 15 (51), 16 (72), 18 (243),
-   19 (8), 22 (4) and 23 (3). */
+/* The links that are offered (document 01, "The links"): X(link, bytes of a datagram that it holds, N bits of its image). Images
+   differ in two things from M.2092-1, because document 01 says so and outranks it: link 20 has 32 check bits in the place of 16, and
+   none of the Recommendation's fill bits are sent, which makes N smaller on links 12 (by 3), 13 (8), 14 (30), 15 (51), 16 (72),
+   18 (243), 19 (8), 22 (4) and 23 (3). */
 #define DECKLEWREN_LINKS(X) \
     X(5, 32, 394)           \
     X(6, 80, 906)           \
@@ -113,7 +113,7 @@ enum {
 #undef DECKLEWREN_NAME_BURST
 
 /* Bytes of stack that a call takes below its caller's, on any link and any input: measured on the archive, return address and red
-   zone counted, and rounded up. They leave 500 bytes for what memcpy and memset take. */
+   zone counted, and rounded up. Those of blocks and slot bursts leave 500 bytes for memcpy and memset; the other calls use neither. */
 enum {
     DECKLEWREN_STACK_WRITE_WORD = 128,
     DECKLEWREN_STACK_READ_WORD = 128,

@@ -6,8 +6,8 @@ use lib.ListN.{length, drop}
 use Rattle.answers.specs.declared.Written.{Written}
 use Rattle.answers.specs.Written.{refused, wrote}
 
--- the answer, and the bytes that are laid at the buffer's start: none on a refusal. It is made of the request and the
--- buffer's length alone, so what the buffer held before cannot reach it.
+-- the answer, and the bytes that are laid at the buffer's start: none on a refusal. What makes one, `writeBlock` and the like, is given the
+-- request and the buffer's length alone, so what the buffer held before cannot reach it.
 pub record Outcome (Answer : Type 0) : Type 0 where
   pub answer : Answer
   pub bytes : List ℕ

@@ -10,13 +10,10 @@ pub struct Written {
 }
 
 // A writing call refuses with a number.
-pub fn refuse(number: u32) -> Written
-    ensures { λ r. ⌜ r ≡ refused number ⌝ }
+pub fn refuse(status: u32) -> Written
+    ensures { λ r. ⌜ r ≡ refused status ⌝ }
 {
-    Written {
-        status: number,
-        count: 0,
-    }
+    Written { status, count: 0 }
 }
 
 // A writing call is done, with the count of bytes.

@@ -17,13 +17,15 @@ use Rattle.blocks.specs.Block.{imageOf}
 abbrev pub bitsOver : Row → List Bool → List Bool
 bitsOver row u = drop (bytesHeld row * 8) (take (openBits row) u)
 
--- k bits, the check right, the bits over zero
+-- k bits, the check right, the bits over zero. The check is right where the register, run over all k bits and so over the check too, ends
+-- at zero (M.2092-1, Annex 2, 1.2.5); `valid-written` of the claims says that these are exactly the blocks that can be written
 unfoldable pub valid : Row → List Bool → Bool
 valid row u = eqb (length u) (row .k) && (eqb (register u) 0 && allZero (bitsOver row u))
 
 abbrev pub Valid : Row → List Bool → Type 0
 Valid row u = valid row u ≡ true
 
+-- a valid block whose image differs from what came in at most one place
 pub record Near (row : Row) (came u : List Bool) : Type 0 where
   pub right : Valid row u
   pub within : differences (imageOf row u) came ≤ 1

@@ -4,13 +4,9 @@ use Prim.Native.Nat.{ℕ, zero, suc, _+_, _-_, _/_}
 use Rattle.links.specs.declared.Row.{Row}
 use Rattle.links.specs.Patterns.{patternOf, tailOf, flagsAt, total}
 
--- the bits of the burst before they are coded: those of its one block
-abbrev pub burstBits : Row → ℕ
-burstBits row = row .k
-
 -- the bits before the check
 abbrev pub openBits : Row → ℕ
-openBits row = burstBits row - 32
+openBits row = row .k - 32
 
 -- the whole bytes that these have room for
 abbrev pub bytesHeld : Row → ℕ

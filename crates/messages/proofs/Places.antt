@@ -14,7 +14,7 @@ use borrow.Author.Tests.{eqb-true, ne-eqb}
 use Rattle.lists.proofs.Every.{every-each, each-every, every-fails}
 use Rattle.messages.specs.Fill.{isFill, onlyFill}
 use Rattle.messages.specs.Places.{byteAt, Fill, FillFrom, Spoilt, totalAt}
-use Rattle.messages.specs.Step.{declared}
+use Rattle.messages.specs.Step.{declaredLength}
 
 -- ---- a byte
 pub fill-is : (b : ℕ) → isFill b ≡ true → Fill b
@@ -35,7 +35,7 @@ module _ (datagram : List ℕ) (position : ℕ) where
   pub left-first : getD (drop position datagram) 0 0 ≡ byteAt datagram position
   left-first = getD-drop position datagram 0 0 ∙ ap (byteAt datagram) (add-zero position)
 
-  pub left-declares : declared (drop position datagram) ≡ totalAt datagram position
+  pub left-declares : declaredLength (drop position datagram) ≡ totalAt datagram position
   left-declares = rw (getD-drop position datagram 1 0, getD-drop position datagram 2 0)
 
   pub only-from : onlyFill (drop position datagram) ≡ true → FillFrom datagram position

@@ -11,7 +11,7 @@ use Rattle.answers.specs.Numbers.{pastEnd, brokenMessage, brokenFill}
 use Rattle.lists.proofs.Every.{every-each}
 use Rattle.messages.specs.declared.Step.{Step}
 use Rattle.messages.specs.Fill.{isFill, onlyFill}
-use Rattle.messages.specs.Step.{refused, finished, message, declared, fillAt, messageAt, stepAt, stepMessage}
+use Rattle.messages.specs.Step.{refused, finished, message, declaredLength, fillAt, messageAt, stepAt, stepMessage}
 
 -- ---- equal answers are equal in each number
 module _ {a b : Step} (e : a ≡ b) where
@@ -38,43 +38,43 @@ either-way : (b : Bool) (answer : Step) → cond b answer answer ≡ answer
 either-way true answer = refl
 either-way false answer = refl
 
-module _ (offset : ℕ) (left : List ℕ) where
-  pub message-few : length left < 3 → messageAt offset left ≡ refused brokenMessage
+module _ (position : ℕ) (left : List ℕ) where
+  pub message-few : length left < 3 → messageAt position left ≡ refused brokenMessage
   unfolding messageAt
   message-few h = simp (lt-ltb (length left) 3 h)
 
-  pub message-small : declared left < 7 → messageAt offset left ≡ refused brokenMessage
+  pub message-small : declaredLength left < 7 → messageAt position left ≡ refused brokenMessage
   unfolding messageAt
-  message-small h = simp (lt-ltb (declared left) 7 h, either-way)
+  message-small h = simp (lt-ltb (declaredLength left) 7 h, either-way)
 
-  pub message-long : length left < declared left → messageAt offset left ≡ refused brokenMessage
+  pub message-long : length left < declaredLength left → messageAt position left ≡ refused brokenMessage
   unfolding messageAt
-  message-long h = simp (lt-ltb (length left) (declared left) h, either-way)
+  message-long h = simp (lt-ltb (length left) (declaredLength left) h, either-way)
 
-  pub message-whole : 7 ≤ declared left → declared left ≤ length left → messageAt offset left ≡ message offset (declared left)
+  pub message-whole : 7 ≤ declaredLength left → declaredLength left ≤ length left → messageAt position left ≡ message position (declaredLength left)
   unfolding messageAt
-  message-whole h l = simp (le-ltb (length left) 3 (omega arith), le-ltb (declared left) 7 h, le-ltb (length left) (declared left) l)
+  message-whole h l = simp (le-ltb (length left) 3 (omega arith), le-ltb (declaredLength left) 7 h, le-ltb (length left) (declaredLength left) l)
 
 -- ---- a step on what is left
-pub step-only : (offset : ℕ) (left : List ℕ) → onlyFill left ≡ true → stepAt offset left ≡ finished
+pub step-only : (position : ℕ) (left : List ℕ) → onlyFill left ≡ true → stepAt position left ≡ finished
 unfolding stepAt
-step-only offset [] e = refl
-step-only offset (b ∷ rest) e = rw (every-each isFill 0 (b ∷ rest) e 0 (omega arith)) (fill-only (b ∷ rest) e)
+step-only position [] e = refl
+step-only position (b ∷ rest) e = rw (every-each isFill 0 (b ∷ rest) e 0 (omega arith)) (fill-only (b ∷ rest) e)
 
-pub step-end : (offset : ℕ) (left : List ℕ) → length left ≡ 0 → stepAt offset left ≡ finished
+pub step-end : (position : ℕ) (left : List ℕ) → length left ≡ 0 → stepAt position left ≡ finished
 unfolding stepAt
-step-end offset [] e = refl
-step-end offset (b ∷ rest) e = absurd (omega arith)
+step-end position [] e = refl
+step-end position (b ∷ rest) e = absurd (omega arith)
 
-pub step-fill : (offset : ℕ) (left : List ℕ) → 0 < length left → isFill (getD left 0 0) ≡ true → stepAt offset left ≡ fillAt left
+pub step-fill : (position : ℕ) (left : List ℕ) → 0 < length left → isFill (getD left 0 0) ≡ true → stepAt position left ≡ fillAt left
 unfolding stepAt
-step-fill offset [] h e = absurd (omega arith)
-step-fill offset (b ∷ rest) h e = rw e
+step-fill position [] h e = absurd (omega arith)
+step-fill position (b ∷ rest) h e = rw e
 
-pub step-begins : (offset : ℕ) (left : List ℕ) → 0 < length left → isFill (getD left 0 0) ≡ false → stepAt offset left ≡ messageAt offset left
+pub step-begins : (position : ℕ) (left : List ℕ) → 0 < length left → isFill (getD left 0 0) ≡ false → stepAt position left ≡ messageAt position left
 unfolding stepAt
-step-begins offset [] h e = absurd (omega arith)
-step-begins offset (b ∷ rest) h e = rw e
+step-begins position [] h e = absurd (omega arith)
+step-begins position (b ∷ rest) h e = rw e
 
 -- ---- a step from a position
 pub step-past : (datagram : List ℕ) (position : ℕ) → length datagram < position → stepMessage datagram position ≡ refused pastEnd

@@ -1,4 +1,4 @@
--- What stands at a place of a datagram, in the words of document 01 ("Messages in a datagram", and the numbers 8, 9, 10): what the
+-- What stands at a position of a datagram, in the words of document 01 ("Messages in a datagram", and the numbers 8, 9, 10): what the
 -- claims hold a step against.
 use mathlib.Core.Path.{_≡_}
 use mathlib.Core.Logic.{_⊎_}

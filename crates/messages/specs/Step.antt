@@ -1,5 +1,5 @@
 -- What a step through a datagram answers (document 01, "Messages in a datagram"; M.2092-1, Annex 4, 4.9). It is told of what is
--- left of the datagram and of its offset, the number of bytes before it.
+-- left of the datagram and of the position where that begins.
 use mathlib.Core.Bool.{cond}
 use mathlib.Core.List.{List, [], _∷_}
 use Prim.Native.Nat.{ℕ, _+_, _*_}
@@ -22,8 +22,8 @@ abbrev pub message : ℕ → ℕ → Step
 message start n = record { status = done; start = start; length = n }
 
 -- the total length that a message declares: the two bytes after its type, high byte first
-abbrev pub declared : List ℕ → ℕ
-declared left = getD left 1 0 * 256 + getD left 2 0
+abbrev pub declaredLength : List ℕ → ℕ
+declaredLength left = getD left 1 0 * 256 + getD left 2 0
 
 -- where fill begins, all must be fill
 unfoldable pub fillAt : List ℕ → Step
@@ -31,16 +31,16 @@ fillAt left = cond (onlyFill left) finished (refused brokenFill)
 
 -- where a message begins: three bytes for its type and length, a length of at least 7, and its end inside the datagram
 unfoldable pub messageAt : ℕ → List ℕ → Step
-messageAt offset left =
+messageAt position left =
     cond (ltb (length left) 3) (refused brokenMessage)
-    (cond (ltb (declared left) 7) (refused brokenMessage)
-    (cond (ltb (length left) (declared left)) (refused brokenMessage)
-    (message offset (declared left))))
+    (cond (ltb (declaredLength left) 7) (refused brokenMessage)
+    (cond (ltb (length left) (declaredLength left)) (refused brokenMessage)
+    (message position (declaredLength left))))
 
 -- a step on what is left
 unfoldable pub stepAt : ℕ → List ℕ → Step
-stepAt offset [] = finished
-stepAt offset (b ∷ rest) = cond (isFill b) (fillAt (b ∷ rest)) (messageAt offset (b ∷ rest))
+stepAt position [] = finished
+stepAt position (b ∷ rest) = cond (isFill b) (fillAt (b ∷ rest)) (messageAt position (b ∷ rest))
 
 -- a step from a position of a datagram, in the order 8, then 9 or 10
 unfoldable pub stepMessage : List ℕ → ℕ → Step

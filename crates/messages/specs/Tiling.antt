@@ -8,19 +8,19 @@ use Rattle.messages.specs.declared.Step.{Step}
 use Rattle.messages.specs.Places.{FillFrom, Spoilt, Begins, Broken, Whole}
 use Rattle.messages.specs.Step.{refused, finished, message}
 
--- whole messages that lie end to end from one place to another
+-- whole messages that lie end to end from one position to another
 pub data Tiles (datagram : List ℕ) : ℕ → List Step → ℕ → Type 0 where
-  none : {place : ℕ} → Tiles datagram place [] place
+  none : {position : ℕ} → Tiles datagram position [] position
   next : {from to total : ℕ} {found : List Step} → Whole datagram from total → Tiles datagram (from + total) found to
       → Tiles datagram from (message from total ∷ found) to
 
--- what stands at the place where stepping ended, and the answer there
-pub data Stops (datagram : List ℕ) (place : ℕ) (last : Step) : Type 0 where
-  at-fill : FillFrom datagram place → last ≡ finished → Stops datagram place last
-  at-spoilt : Spoilt datagram place → last ≡ refused brokenFill → Stops datagram place last
-  at-broken : Begins datagram place → Broken datagram place → last ≡ refused brokenMessage → Stops datagram place last
+-- what stands at the position where stepping ended, and the answer there
+pub data Stops (datagram : List ℕ) (position : ℕ) (last : Step) : Type 0 where
+  at-fill : FillFrom datagram position → last ≡ finished → Stops datagram position last
+  at-spoilt : Spoilt datagram position → last ≡ refused brokenFill → Stops datagram position last
+  at-broken : Begins datagram position → Broken datagram position → last ≡ refused brokenMessage → Stops datagram position last
 
--- the messages found lie end to end from one place to that one
+-- the messages found lie end to end from one position to the one where stepping ended
 pub record Tiled (datagram : List ℕ) (from : ℕ) (found : List Step) (last : Step) : Type 0 where
   pub end : ℕ
   pub inside : end ≤ length datagram

@@ -4,7 +4,7 @@ ghost use Prim.Native.Nat.{_≤_};
 ghost use lib.Dec.{ltb};
 ghost use lib.ListN.{length};
 ghost use Rattle.messages.specs.Fill.{isFill, onlyFill};
-ghost use Rattle.messages.specs.Step.{refused, finished, message, declared, fillAt, messageAt, stepAt, stepMessage};
+ghost use Rattle.messages.specs.Step.{refused, finished, message, declaredLength, fillAt, messageAt, stepAt, stepMessage};
 
 // What a step answers: where a message starts and its length.
 #[repr(C)]
@@ -14,11 +14,11 @@ pub struct Step {
     pub length: u64,
 }
 
-fn refuse(number: u32) -> Step
-    ensures { λ r. ⌜ r ≡ refused number ⌝ }
+fn refuse(status: u32) -> Step
+    ensures { λ r. ⌜ r ≡ refused status ⌝ }
 {
     Step {
-        status: number,
+        status,
         start: 0,
         length: 0,
     }
@@ -75,14 +75,14 @@ fn fill_at(left: &[u8]) -> Step
 // The total length that a message declares.
 fn declared_length(left: &[u8]) -> usize
     requires { ⌜ 3 ≤ length (now left) ⌝ }
-    ensures { λ r. ⌜ r ≡ declared (now (left .entry)) ⌝ }
+    ensures { λ r. ⌜ r ≡ declaredLength (now (left .entry)) ⌝ }
 {
     let high = left[1] as usize;
     let low = left[2] as usize;
     high * 256 + low
 }
 
-// Whether a message of this total length runs past the end. It is compared with what is left: added to an offset it could wrap.
+// Whether a message of this total length runs past the end. It is compared with what is left: added to a position it could wrap.
 fn past_end(total: usize, left: &[u8]) -> bool
     ensures { λ r. ⌜ r ≡ ltb (length (now (left .entry))) total ⌝ }
 {
@@ -90,8 +90,8 @@ fn past_end(total: usize, left: &[u8]) -> bool
 }
 
 // Where a message begins.
-fn message_at(offset: usize, left: &[u8]) -> Step
-    ensures { λ r. ⌜ r ≡ messageAt offset (now (left .entry)) ⌝ }
+fn message_at(position: usize, left: &[u8]) -> Step
+    ensures { λ r. ⌜ r ≡ messageAt position (now (left .entry)) ⌝ }
 {
     if left.len() < 3 {
         return refuse(9);
@@ -103,12 +103,12 @@ fn message_at(offset: usize, left: &[u8]) -> Step
     if past_end(total, left) {
         return refuse(9);
     }
-    message(offset, total)
+    message(position, total)
 }
 
-// A step on what is left of a datagram, of which `offset` bytes stand before.
-fn step_at(offset: usize, left: &[u8]) -> Step
-    ensures { λ r. ⌜ r ≡ stepAt offset (now (left .entry)) ⌝ }
+// A step on what is left of a datagram from a position on.
+fn step_at(position: usize, left: &[u8]) -> Step
+    ensures { λ r. ⌜ r ≡ stepAt position (now (left .entry)) ⌝ }
 {
     if left.len() == 0 {
         return finished();
@@ -116,7 +116,7 @@ fn step_at(offset: usize, left: &[u8]) -> Step
     if is_fill(left[0]) {
         return fill_at(left);
     }
-    message_at(offset, left)
+    message_at(position, left)
 }
 
 // The message that begins at a position of a datagram, or that no more follow, or why none can be read there.

@@ -17,6 +17,7 @@ pub record NearHead (came : List Bool) (link wordWrong : ℕ) : Type 0 where
   pub trained : trainingPart came ≡ training
   pub word : NearWord (wordPart came) link wordWrong
 
+-- and the rest of what came near a valid block's image of that link
 pub record Near (came : List Bool) (link wordWrong : ℕ) (u : List Bool) : Type 0 where
   pub head : NearHead came link wordWrong
   pub size : length came ≡ burstLength link

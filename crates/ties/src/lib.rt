@@ -3,12 +3,13 @@
 use answers::Written;
 use blocks::Block;
 use messages::Step;
+use printer_text::Text;
 use slots::Slot;
 use words::Word;
 ghost use mathlib.Core.Path.{_≡_};
 ghost use mathlib.Core.Bool.{true};
 ghost use Rattle.bits.specs.Datagram.{allBytes};
-ghost use Rattle.claims.specs.Calls.{WroteWord, ReadWord, WroteBlock, ReadBlock, WroteSlot, ReadSlot, Stepped};
+ghost use Rattle.claims.specs.Calls.{WroteWord, ReadWord, WroteBlock, ReadBlock, WroteSlot, ReadSlot, Stepped, Printed};
 
 pub fn write_word(number: u32, out: &mut [u8]) -> Written
     ensures { λ r. ⌜ WroteWord number (now (out .entry)) (now (out .exit)) r ⌝ }
@@ -50,4 +51,11 @@ pub fn step_message(datagram: &[u8], position: usize) -> Step
     ensures { λ r. ⌜ Stepped (now (datagram .entry)) position r ⌝ }
 {
     decklewren::decklewren_step_message(datagram, position)
+}
+
+// The text that the link word printer's `main` prints.
+pub fn text_of(input: &[u8]) -> Text
+    ensures { λ r. ⌜ Printed (now (input .entry)) r ⌝ }
+{
+    printer_text::text_of(input)
 }

@@ -16,7 +16,7 @@ position row s =
     let c = (getD (row .primes) (q - 1) 0 * j + 21 * m) % row .k2 in
     2 * (t + c * (row .k1 / 2) + 1) - m
 
--- a position in the block, and so a clock
+-- s is one of 1 to k: the s-th input comes at clock s - 1, since clocks count from 0
 abbrev pub InBlock : Row → ℕ → Type 0
 InBlock row s = (1 ≤ s) × (s ≤ row .k)
 

@@ -48,14 +48,14 @@ read-near row h e = rw (eq-eqb (length row) 32 h, e)
 left : (n : ℕ) → n < 64 → 64 - n ≡ suc (64 - (n + 1))
 left n h = omega arith
 
-pub near-here : (received n : ℕ) → n < 64 → distance (wordOf n) received ≤ 7 → firstNear received n (64 - n) ≡ found n (distance (wordOf n) received)
+pub near-here : (came n : ℕ) → n < 64 → distance (wordOf n) came ≤ 7 → firstNear came n (64 - n) ≡ found n (distance (wordOf n) came)
 unfolding firstNear
-near-here received n h d = rw (left n h, le-leb (distance (wordOf n) received) 7 d)
+near-here came n h d = rw (left n h, le-leb (distance (wordOf n) came) 7 d)
 
-pub near-later : (received n : ℕ) → n < 64 → 7 < distance (wordOf n) received → firstNear received n (64 - n) ≡ firstNear received (n + 1) (64 - (n + 1))
+pub near-later : (came n : ℕ) → n < 64 → 7 < distance (wordOf n) came → firstNear came n (64 - n) ≡ firstNear came (n + 1) (64 - (n + 1))
 unfolding firstNear
-near-later received n h d = rw (left n h, lt-leb (distance (wordOf n) received) 7 d)
+near-later came n h d = rw (left n h, lt-leb (distance (wordOf n) came) 7 d)
 
-pub near-none : (received n : ℕ) → 64 ≤ n → firstNear received n (64 - n) ≡ refused noWord
+pub near-none : (came n : ℕ) → 64 ≤ n → firstNear came n (64 - n) ≡ refused noWord
 unfolding firstNear
-near-none received n h = let none : 64 - n ≡ 0 = omega arith in rw none
+near-none came n h = let none : 64 - n ≡ 0 = omega arith in rw none

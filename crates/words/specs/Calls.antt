@@ -27,11 +27,11 @@ refused n = record { status = n; number = 0; wrong = 0 }
 abbrev pub found : ℕ → ℕ → Word
 found n wrong = record { status = done; number = n; wrong = wrong }
 
--- the first of `left` numbers from n on whose word is within seven of the received one
+-- the first of `left` numbers from n on whose word is within seven of what came
 unfoldable pub firstNear : ℕ → ℕ → ℕ → Word
-firstNear received n zero = refused noWord
-firstNear received n (suc left) =
-    cond (leb (distance (wordOf n) received) 7) (found n (distance (wordOf n) received)) (firstNear received (n + 1) left)
+firstNear came n zero = refused noWord
+firstNear came n (suc left) =
+    cond (leb (distance (wordOf n) came) 7) (found n (distance (wordOf n) came)) (firstNear came (n + 1) left)
 
 -- reading, in the order 2, 4, 6
 unfoldable pub readWord : List ℕ → Word

@@ -79,12 +79,12 @@ pub fn write(number: u32, out: &mut [u8]) -> Written
     answers::done(32)
 }
 
-// The first number whose word is within seven places of a received word.
-fn first_near(received: u32) -> Word
-    ensures { λ r. ⌜ r ≡ firstNear received 0 64 ⌝ }
+// The first number whose word is within seven places of what came.
+fn first_near(came: u32) -> Word
+    ensures { λ r. ⌜ r ≡ firstNear came 0 64 ⌝ }
 {
     for number in 0..64u32 {
-        let wrong = bits::distance(word_of(number), received);
+        let wrong = bits::distance(word_of(number), came);
         if wrong <= 7 {
             return find(number, wrong);
         }

@@ -296,8 +296,11 @@ fn step_refused(number: Refusal, datagram: &[u8], position: usize) -> Run {
         }
         (_, [_, high, low, ..]) => {
             let declared = usize::from(*high) * 256 + usize::from(*low);
-            let left = rest.len();
-            format!("the message declares {declared} bytes, {left} are left")
+            let compared = match declared < 7 {
+                true => "at least 7 are needed".to_string(),
+                false => format!("{} are left", rest.len()),
+            };
+            format!("the message declares {declared} bytes, {compared}")
         }
         _ => format!("{} of 3 bytes left", rest.len()),
     };
