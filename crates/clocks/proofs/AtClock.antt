@@ -12,7 +12,7 @@ use Rattle.lists.proofs.Over.{fits-rest, fits-piece, more-piece, last}
 use Rattle.bits.specs.Bits.{isOne, byte}
 use Rattle.turbo.specs.Encoder.{next}
 use Rattle.turbo.specs.Coded.{six, passed, ending}
-use Rattle.turbo.proofs.Passing.{flags-at}
+use Rattle.turbo.proofs.Passing.{flags-at, passed-length}
 use Rattle.encoder.specs.working.Number.{registerOf, numberOf}
 use Rattle.encoder.proofs.Number.{register-made, made-small}
 use Rattle.clocks.specs.working.Encode.{Ready, left}
@@ -45,8 +45,15 @@ module _ {u v : List ℕ} {pattern : List (List ℕ)} {period : ℕ} {tail : Lis
       rw (← flags-at pattern period c s (ready .some) (omega (arith, ready .few, i .ten)) (i .place))
       (left-more (take period pattern) tail u v s (registerOf a) (registerOf b) h (omega (arith, ready .same)))
 
-  pub clock-fits : s < length u → Room at (clockBytes u v pattern a b c s) out
-  clock-fits h = fits-piece (clockBytes u v pattern a b c s) _ (i .laying) (more h)
+  -- there is room for what the clock passes on, whatever its six bits are
+  pub clock-fits : s < length u → (bits : List ℕ) → length bits ≡ 6 → Room at (passed (getD pattern c []) bits) out
+  unfolding six
+  clock-fits h bits long =
+      omega (
+        arith,
+        fits-piece (clockBytes u v pattern a b c s) _ (i .laying) (more h),
+        passed-length (getD pattern c []) bits (map byte (six (registerOf a) (registerOf b) (isOne (getD u s 0)) (isOne (getD v s 0)))) (omega arith),
+      )
 
   -- after the clock
   pub at-next : {out' : List ℕ} {at' a' b' c' : ℕ} → s < length u → Lays at (clockBytes u v pattern a b c s) out out' at'

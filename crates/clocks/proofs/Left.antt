@@ -1,17 +1,18 @@
 -- What is left to lay at a clock, in bytes: of the ending, and of a block.
 -- Assumes nothing.
-use mathlib.Core.Path.{_≡_, refl, ap, _∙_}
+use mathlib.Core.Path.{_≡_, refl, sym, ap, _∙_}
 use mathlib.Core.Bool.{Bool, true, false}
 use mathlib.Core.List.{List, [], _++_, map, map-append}
 use Prim.Native.Nat.{ℕ, suc, _+_, _<_, _≤_}
 use native.Mathlib.Numerals.{add-one}
 use native.Mathlib.Omega.{arith}
-use lib.ListN.{length, getD, take, drop, drop-of-length-le}
+use lib.ListN.{length, getD, take, drop, drop-of-length-le, length-map}
 use lib.Seq.{drop-cons, slice, slice-empty, slice-cons, take-all}
 use Rattle.bits.specs.Bits.{isOne, byte}
 use Rattle.links.specs.Patterns.{flagsAt}
 use Rattle.turbo.specs.Encoder.{Register, start, feedback, next}
 use Rattle.turbo.specs.Coded.{six, passed, alone, endingOf, ending, codedFrom}
+use Rattle.turbo.proofs.Lengths.{even-endings}
 use Rattle.turbo.proofs.Passing.{map-passed}
 use Rattle.clocks.specs.working.Encode.{left}
 
@@ -35,6 +36,11 @@ firstBytes tail a = map byte (endingOf false (slice 0 3 tail) a)
 
 abbrev pub secondBytes : List (List ℕ) → Register → List ℕ
 secondBytes tail b = map byte (endingOf true (slice 3 6 tail) b)
+
+-- the second is as long from any register
+pub second-even : (tail : List (List ℕ)) (a b : Register) → length (secondBytes tail a) ≡ length (secondBytes tail b)
+second-even tail a b =
+    length-map (endingOf true (slice 3 6 tail) a) byte ∙ even-endings true (slice 3 6 tail) a b ∙ sym (length-map (endingOf true (slice 3 6 tail) b) byte)
 
 pub ending-both : (tail : List (List ℕ)) (a b : Register) → length tail ≡ 6 → map byte (ending tail a b) ≡ firstBytes tail a ++ secondBytes tail b
 ending-both tail a b l = rw (take-all 6 tail (omega (arith, l))) (map-append byte (endingOf false (take 3 tail) a) (endingOf true (drop 3 tail) b))

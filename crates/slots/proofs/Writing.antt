@@ -8,8 +8,8 @@ use native.Mathlib.Omega.{arith}
 use lib.ListN.{length, take, drop, length-append, length-drop}
 use Rattle.answers.specs.declared.Written.{Written}
 use Rattle.answers.specs.Written.{wrote}
-use Rattle.answers.specs.Outcome.{laid, Wrote, writing}
-use Rattle.answers.proofs.Task.{write-done}
+use Rattle.answers.specs.Outcome.{Outcome, laid, Wrote, writing}
+use Rattle.answers.proofs.Task.{write-done, Writing, unoffered, too-long, too-short, writes, writing-goes}
 use Rattle.answers.proofs.Wrote.{lays, told, held}
 use Rattle.lists.specs.Over.{over}
 use Rattle.lists.proofs.Over.{over-length}
@@ -17,6 +17,8 @@ use Rattle.lists.proofs.Parts.{part-rest}
 use Rattle.bits.specs.Bits.{byte}
 use Rattle.links.specs.Rows.{rowOf}
 use Rattle.links.specs.Sizes.{bytesHeld, imageLength}
+use Rattle.links.specs.working.Good.{longestImage}
+use Rattle.links.proofs.Facts.{sizes}
 use Rattle.links.proofs.Good.{good}
 use Rattle.blocks.specs.Block.{blockOf, imageOf}
 use Rattle.blocks.specs.Calls.{blockTask, writeBlock}
@@ -26,6 +28,19 @@ use Rattle.slots.specs.Calls.{slotTask, writeSlot}
 use Rattle.slots.proofs.HeadLaid.{length-head}
 use Rattle.slots.proofs.Links.{slot-offered}
 use Rattle.slots.proofs.Lent.{part-laid}
+
+-- a block writer that is asked for any link, datagram and buffer answers a small count
+pub count-small : (link : ℕ) (datagram : List ℕ) (room : ℕ) {old new : List ℕ} {block : Written} → Wrote (writeBlock link datagram room) old new block → block .count ≤ longestImage
+count-small link datagram room {old} {new} {block} wrote = goes (writing-goes (blockTask link datagram) room)
+  where
+    count : {outcome : Outcome Written} → writeBlock link datagram room ≡ outcome → block .count ≡ outcome .answer .count
+    count e = told wrote (λ (w : Written). w .count) e
+
+    goes : Writing (blockTask link datagram) room → block .count ≤ longestImage
+    goes (unoffered o e) = omega (arith, count e)
+    goes (too-long o l e) = omega (arith, count e)
+    goes (too-short o f h e) = omega (arith, count e)
+    goes (writes o f h e) = omega (arith, count e, long-image (rowOf link) (good link o) datagram, sizes (rowOf link) (good link o) .image)
 
 -- the part of a buffer behind the head
 abbrev pub behindHead : List ℕ → List ℕ

@@ -18,7 +18,7 @@ use Rattle.turbo.specs.Encoder.{Register, start, feedback, next}
 use Rattle.turbo.specs.Interleaver.{interleaved}
 use Rattle.turbo.specs.Coded.{six, passed, alone, endingOf, ending, codedFrom, coded}
 use Rattle.turbo.proofs.Interleaved.{length-interleaved}
-use Rattle.turbo.proofs.Passing.{length-passed}
+use Rattle.turbo.proofs.Passing.{length-passed, passed-length}
 
 -- every clock has six flags
 abbrev SixEach : List (List ℕ) → Type 0
@@ -36,6 +36,16 @@ length-ending-of second (flags ∷ clocks) each r =
     length-append (passed flags (alone second r)) (endingOf second clocks (next r (feedback r)))
     ∙ ap₂ _+_ (length-passed flags (alone second r) (omega (arith, each 0 (omega arith), length-alone second r)))
     (length-ending-of second clocks (λ i h. each (suc i) (omega arith)) (next r (feedback r)))
+
+-- whatever the flags are, an ending is as long from one register as from another
+pub even-endings : (second : Bool) (clocks : List (List ℕ)) (r q : Register) → length (endingOf second clocks r) ≡ length (endingOf second clocks q)
+unfolding endingOf
+even-endings second [] r q = refl
+even-endings second (flags ∷ clocks) r q =
+    length-append (passed flags (alone second r)) (endingOf second clocks (next r (feedback r)))
+    ∙ ap₂ _+_ (passed-length flags (alone second r) (alone second q) (length-alone second r ∙ sym (length-alone second q)))
+    (even-endings second clocks (next r (feedback r)) (next q (feedback q)))
+    ∙ sym (length-append (passed flags (alone second q)) (endingOf second clocks (next q (feedback q))))
 
 pub length-ending : (clocks : List (List ℕ)) → Tail clocks → (a b : Register) → length (ending clocks a b) ≡ tailBits clocks
 length-ending clocks good a b =

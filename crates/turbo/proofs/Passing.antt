@@ -20,6 +20,23 @@ length-passed (flag ∷ flags) [] h = absurd (omega arith)
 length-passed (flag ∷ flags) (b ∷ bits) h =
     length-append (replicate flag b) (passed flags bits) ∙ ap₂ _+_ (length-replicate flag b) (length-passed flags bits (omega arith))
 
+-- how many bits pass does not depend on which they are
+pub passed-length : {A : Type 0} (flags : List ℕ) (xs ys : List A) → length xs ≡ length ys → length (passed flags xs) ≡ length (passed flags ys)
+unfolding passed
+passed-length [] xs ys e = refl
+passed-length (flag ∷ flags) [] [] e = refl
+passed-length (flag ∷ flags) [] (y ∷ ys) e = absurd (omega arith)
+passed-length (flag ∷ flags) (x ∷ xs) [] e = absurd (omega arith)
+passed-length (flag ∷ flags) (x ∷ xs) (y ∷ ys) e =
+    omega (
+      arith,
+      length-append (replicate flag x) (passed flags xs),
+      length-append (replicate flag y) (passed flags ys),
+      length-replicate flag x,
+      length-replicate flag y,
+      passed-length flags xs ys (omega arith),
+    )
+
 -- what is left to pass on at i
 pub passed-more : (flags bits : List ℕ) (i : ℕ) → i < length flags → i < length bits
     → passed (drop i flags) (drop i bits) ≡ replicate (getD flags i 0) (getD bits i 0) ++ passed (drop (i + 1) flags) (drop (i + 1) bits)

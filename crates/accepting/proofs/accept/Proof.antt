@@ -31,9 +31,6 @@ few c = omega (arith, c .if1 .left)
 returns : tie.Need-returns
 returns c = refuses (far-refused _ _ _ _ _ (omega (arith, c .before .before .before .before .compare .ensures, c .before .if1 .taken))) (c .refuse .ensures)
 
-bytes-held-requires : tie.Need-bytes-held-requires
-bytes-held-requires c κs = sizes _ (start c .pre .0 .good) .check
-
 mul-pack : tie.Need-mul-pack
 mul-pack c = let at = start (c .before) in record { fits = omega (arith, c .bytes-held .ensures, sizes (at .args .row) (at .pre .0 .good) .bytes) }
 
@@ -67,7 +64,7 @@ accept-spec =
     (tie.spec
     (λ c κs. search needs) (λ c κs. search needs) (λ c. search needs)
     returns
-    bytes-held-requires
+    (λ c κs. sizes _ (start c .pre .0 .good) .check)
     mul-pack
     pack-requires
     (λ c. search needs)

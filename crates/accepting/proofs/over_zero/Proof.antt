@@ -15,9 +15,6 @@ Inv-loop u end i₀ i = (i₀ ≤ i) × (i ≤ end) × (end ≤ length u) × (le
 abbrev μ-loop : tie.MeasureT-loop
 μ-loop u end i₀ i = end - i
 
-open-bits-requires : tie.Need-open-bits-requires Inv-loop μ-loop
-open-bits-requires c κs = sizes (c .before .args .row) (c .before .pre .0) .check
-
 bytes-held-requires : tie.Need-bytes-held-requires Inv-loop μ-loop
 bytes-held-requires c κs = sizes (c .before .before .args .row) (c .before .before .pre .0) .check
 
@@ -55,7 +52,7 @@ over-zero-spec =
     (tie.spec
     Inv-loop
     μ-loop
-    open-bits-requires
+    (λ c κs. sizes (c .before .args .row) (c .before .pre .0) .check)
     bytes-held-requires
     (λ c. search needs)
     loop-holds

@@ -63,12 +63,6 @@ returns c =
     let at = c .before .before in
     refuses (read-unoffered _ _ _ (found-offered _ (at .before .place-of .ensures) (fails (at .has-row .ensures) (c .before .if1 .taken)))) (c .refuse .ensures)
 
-row-at-requires : tie.Need-row-at-requires
-row-at-requires c κs = inside c
-
-image-length-at-requires : tie.Need-image-length-at-requires
-image-length-at-requires c κs = inside (c .before)
-
 bytes-held-requires : tie.Need-bytes-held-requires
 bytes-held-requires c κs =
     let passed = c .before .before in
@@ -112,8 +106,8 @@ read-spec =
     (tie.spec
     (λ c κs. search needs) (λ c κs. search needs) (λ c κs. search needs)
     returns
-    row-at-requires
-    image-length-at-requires
+    (λ c κs. inside c)
+    (λ c κs. inside (c .before))
     bytes-held-requires
     (λ c κs. search needs)
     returns-2

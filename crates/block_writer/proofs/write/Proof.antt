@@ -53,19 +53,10 @@ returns c =
     let at = c .before .before in
     refuses (write-unoffered _ _ (found-offered _ (at .before .place-of .ensures) (fails (at .has-row .ensures) (c .before .if1 .taken)))) (c .refuse .ensures)
 
-row-at-requires : tie.Need-row-at-requires
-row-at-requires c κs = inside c
-
-bytes-held-requires : tie.Need-bytes-held-requires
-bytes-held-requires c κs = sizes (c .row-at .result) (is-good c) .check
-
 returns-2 : tie.Need-returns-2
 returns-2 c =
     let at = c .before .before in
     refuses (write-long _ _ (offers (at .before .before)) (omega (arith, c .before .if2 .taken, at .bytes-held .ensures, ap bytesHeld (row (at .before))))) (c .refuse2 .ensures)
-
-image-length-at-requires : tie.Need-image-length-at-requires
-image-length-at-requires c κs = inside (c .before .before .before)
 
 returns-3 : tie.Need-returns-3
 returns-3 c =
@@ -100,11 +91,11 @@ write-spec =
     (tie.spec
     (λ c κs. search needs) (λ c κs. search needs) (λ c κs. search needs)
     returns
-    row-at-requires
-    bytes-held-requires
+    (λ c κs. inside c)
+    (λ c κs. sizes (c .row-at .result) (is-good c) .check)
     (λ c κs. search needs)
     returns-2
-    image-length-at-requires
+    (λ c κs. inside (c .before .before .before))
     (λ c κs. search needs)
     returns-3
     write-row-requires

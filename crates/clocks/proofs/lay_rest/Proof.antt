@@ -38,13 +38,15 @@ six-requires : tie.Need-six-requires Inv-loop μ-loop
 six-requires c κs =
     let p = c .before .before .before .before .before .before .before .before .pre .0 .ready in
     let l = c .before .before .before .before .loop in
-    (l .inv .1 .small-a, l .inv .1 .small-b, bit-low _ (p .bits-u) (l .s), bit-low _ (p .bits-v) (l .s))
+    let small-u = bit-low _ (p .bits-u) (l .s) in
+    let small-v = bit-low _ (p .bits-v) (l .s) in
+    (omega (arith, l .inv .1 .small-a), omega (arith, l .inv .1 .small-a, l .inv .1 .small-b), omega (arith, small-u), omega (arith, small-u, small-v))
 
 lay-requires : tie.Need-lay-requires Inv-loop μ-loop
 lay-requires c κs =
     let p = c .before .before .before .before .before .before .before .before .before .before .pre .0 .ready in
     let l = c .before .before .before .before .before .before .loop in
-    (p .pattern-flags (l .c), rw (c .before .six .ensures) (clock-fits p (l .inv .1) (omega arith)))
+    (p .pattern-flags (l .c), clock-fits p (l .inv .1) (omega arith) _ (search needs))
 
 next-requires : tie.Need-next-requires Inv-loop μ-loop
 next-requires c κs =
@@ -56,7 +58,7 @@ next-requires-2 : tie.Need-next-requires-2 Inv-loop μ-loop
 next-requires-2 c κs =
     let p = c .before .before .before .before .before .before .before .before .before .before .before .before .before .before .pre .0 .ready in
     let l = c .before .before .before .before .before .before .before .before .before .before .loop in
-    (l .inv .1 .small-b, bit-low _ (p .bits-v) (l .s))
+    (l .inv .1 .small-b, omega (arith, bit-low _ (p .bits-u) (l .s), bit-low _ (p .bits-v) (l .s)))
 
 next-clock-requires : tie.Need-next-clock-requires Inv-loop μ-loop
 next-clock-requires c κs =

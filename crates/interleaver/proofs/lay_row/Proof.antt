@@ -77,12 +77,6 @@ first-inside c =
     let st = c .before .before .before .before .before .before .before .before in
     rw (first-is c) (position-inside (st .args .row) (st .args .u .now) (st .pre .0) (st .pre .2) (st .pre .4) 0 (st .args .i) (c .before .before .loop .j) (omega arith) (omega arith))
 
-sub-v : tie.Need-sub-v Inv-loop μ-loop
-sub-v c = first-inside c .0
-
-shared-slice-read-v : tie.Need-shared-slice-read-v Inv-loop μ-loop
-shared-slice-read-v c = omega (arith, first-inside (c .before))
-
 slice-write-v : tie.Need-slice-write-v Inv-loop μ-loop
 slice-write-v c =
     let st = c .before .before .before .before .before .before .before .before .before in
@@ -102,12 +96,6 @@ second-inside : (c : tie.After-position2 Inv-loop μ-loop) → (1 ≤ c .positio
 second-inside c =
     let st = c .before .before .before .before .before .before .before .before .before .before in
     rw (second-is c) (position-inside (st .args .row) (st .args .u .now) (st .pre .0) (st .pre .2) (st .pre .4) 1 (st .args .i) (c .before .before .before .before .loop .j) (omega arith) (omega arith))
-
-sub-v-2 : tie.Need-sub-v-2 Inv-loop μ-loop
-sub-v-2 c = second-inside c .0
-
-shared-slice-read-v-2 : tie.Need-shared-slice-read-v-2 Inv-loop μ-loop
-shared-slice-read-v-2 c = omega (arith, second-inside (c .before))
 
 add-v : tie.Need-add-v Inv-loop μ-loop
 add-v c =
@@ -148,12 +136,12 @@ lay-row-spec =
     add-s
     mul-s-2
     position-requires
-    sub-v
-    shared-slice-read-v
+    (λ c. first-inside c .0)
+    (λ c. omega (arith, first-inside (c .before)))
     slice-write-v
     position-requires-2
-    sub-v-2
-    shared-slice-read-v-2
+    (λ c. second-inside c .0)
+    (λ c. omega (arith, second-inside (c .before)))
     add-v
     slice-write-v-2
     (λ c. search needs) (λ c. search needs)

@@ -9,9 +9,6 @@ use Rattle.link_word_printer.proofs.main.Tie as tie
 slice-aggregate-text-of : tie.Need-slice-aggregate-text-of
 slice-aggregate-text-of c = sym (length-take-le (c .before .before .read-line .result) (c .before .before .read-line .last .0) (search needs))
 
-array-share-prefix-bytes : tie.Need-array-share-prefix-bytes
-array-share-prefix-bytes c = within _ (c .before .text-of .ensures)
-
 slice-aggregate-write-all : tie.Need-slice-aggregate-write-all
 slice-aggregate-write-all c = sym (length-take-le _ _ (within _ (c .before .before .text-of .ensures)))
 
@@ -22,6 +19,6 @@ main-spec =
     (λ c κs. search needs) (λ c. search needs) (λ c κs. search needs) (λ c. search needs)
     slice-aggregate-text-of
     (λ c κs. search needs)
-    array-share-prefix-bytes
+    (λ c. within _ (c .before .text-of .ensures))
     slice-aggregate-write-all
     (λ c κs. search needs) (λ c. search needs))

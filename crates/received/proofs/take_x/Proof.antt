@@ -31,12 +31,6 @@ loop-holds c =
     let start = c .before .before .before .before .before in
     taking-start (start .args .row) (start .pre .0) (start .args .coded .now) (start .args .u .now) (start .pre .1) (start .pre .2) (start .pre .3)
 
-shared-slice-read-u : tie.Need-shared-slice-read-u Inv-loop μ-loop
-shared-slice-read-u c = here c .reads
-
-slice-write-u : tie.Need-slice-write-u Inv-loop μ-loop
-slice-write-u c = here c .writes
-
 mul-at : tie.Need-mul-at Inv-loop μ-loop
 mul-at c = let at = here c in search needs
 
@@ -76,8 +70,8 @@ take-x-spec =
     μ-loop
     (λ c κs. search needs) (λ c κs. search needs) (λ c κs. search needs)
     loop-holds
-    shared-slice-read-u
-    slice-write-u
+    (λ c. here c .reads)
+    (λ c. here c .writes)
     mul-at
     array-read-at
     add-at

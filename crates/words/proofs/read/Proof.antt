@@ -31,9 +31,6 @@ returns-2 c =
     let passed = c .before .before in
     c .refuse2 .ensures ∙ sym (read-no-bit (row (passed .before)) (long passed) (fails (passed .before .all-bits .ensures) (c .before .if2 .taken)))
 
-number-of-requires : tie.Need-number-of-requires
-number-of-requires c κs = omega (arith, long (c .before))
-
 returns-3 : tie.Need-returns-3
 returns-3 c =
     let passed = c .before .before in
@@ -49,6 +46,6 @@ read-spec =
     returns
     (λ c κs. search needs)
     returns-2
-    number-of-requires
+    (λ c κs. omega (arith, long (c .before)))
     (λ c κs. search needs)
     returns-3)

@@ -4,11 +4,8 @@ use lib.Bits.{and-mask, and-le-r}
 use Rattle.clocks.proofs.clock.lowest.Statement.{statement}
 use Rattle.clocks.proofs.clock.lowest.Tie as tie
 
-cast-result : tie.Need-cast-result
-cast-result c = omega (arith, and-le-r (c .args .taps) 1)
-
 returns : tie.Need-returns
 returns c = and-mask (c .args .taps) 1
 
 pub lowest-spec : {M : Type 1} → statement M
-lowest-spec = tie.close (tie.spec cast-result returns)
+lowest-spec = tie.close (tie.spec (λ c. omega (arith, and-le-r (c .args .taps) 1)) returns)

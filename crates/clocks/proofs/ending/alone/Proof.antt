@@ -12,7 +12,7 @@ use Rattle.clocks.proofs.ending.alone.Statement.{statement}
 use Rattle.clocks.proofs.ending.alone.Tie as tie
 
 six-requires : tie.Need-six-requires
-six-requires c κs = (search needs, search needs, search needs, feedback-small (c .before .before .args .register) (c .before .fed-back .ensures))
+six-requires c κs = (search needs, search needs, search needs, feedback-small _ (c .before .fed-back .ensures))
 
 returns : tie.Need-returns
 unfolding six alone registerOf xor
@@ -21,7 +21,7 @@ returns c =
     rw (c .before .if1 .taken) (c .six .ensures ∙ ap (λ (u : Bool). map byte (six start r false u)) (is-one (feedback r) (c .before .before .fed-back .ensures)))
 
 six-requires-2 : tie.Need-six-requires-2
-six-requires-2 c κs = (search needs, search needs, feedback-small (c .before .before .args .register) (c .before .fed-back .ensures), search needs)
+six-requires-2 c κs = (search needs, search needs, feedback-small _ (c .before .fed-back .ensures), search needs)
 
 returns-2 : tie.Need-returns-2
 unfolding six alone registerOf xor

@@ -1,8 +1,9 @@
 -- The second encoder's ending behind the first's. Assumes nothing.
+use native.Mathlib.Omega.{arith}
 use borrow.Author.Needs.{needs}
 use Rattle.lists.proofs.Over.{first-fits, second-fits, both-laid}
 use Rattle.encoder.specs.working.Number.{registerOf}
-use Rattle.clocks.proofs.Left.{firstBytes, secondBytes, ending-both}
+use Rattle.clocks.proofs.Left.{firstBytes, secondBytes, second-even, ending-both}
 use Rattle.clocks.proofs.ending.end.Statement.{statement}
 use Rattle.clocks.proofs.ending.end.Tie as tie
 
@@ -19,7 +20,8 @@ end-one-requires-2 c κs =
     let p = c .before .before .before .before .before .before .pre in
     let both = ending-both (a .tail) (registerOf (a .a)) (registerOf (a .b)) (search needs) in
     let first = c .before .before .before .end-one .ensures in
-    ((search needs, p .0 .1, p .0 .2), second-fits (a .at) (firstBytes (a .tail) (registerOf (a .a))) (secondBytes (a .tail) (registerOf (a .b))) (a .out .now) both (p .1) first)
+    let even = second-even (a .tail) (registerOf (a .a)) (registerOf (a .b)) in
+    ((search needs, omega (arith, p .0 .0, p .0 .1), p .0 .2), omega (arith, second-fits (a .at) (firstBytes (a .tail) (registerOf (a .a))) (secondBytes (a .tail) (registerOf (a .b))) (a .out .now) both (p .1) first, even))
 
 returns : tie.Need-returns
 returns c =

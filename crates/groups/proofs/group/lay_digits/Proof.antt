@@ -38,9 +38,6 @@ loop-again c =
     let next = at-more (digit (a .t1)) (a .places .now) (a .count) (l .i) (omega arith) (p .0) in
     (search needs, rw (c .wide .ensures .0, ← add-assoc) (more _ _ (l .inv .1) next))
 
-add-result : tie.Need-add-result Inv-loop μ-loop
-add-result c = omega (arith, fits-rest (c .before .loop .inv .1))
-
 returns : tie.Need-returns Inv-loop μ-loop
 returns c =
     let a = c .before .before .before .before .args in
@@ -62,6 +59,6 @@ lay-digits-spec =
     slice-write-out
     (λ c. search needs) (λ c. search needs)
     loop-again
-    add-result
+    (λ c. omega (arith, fits-rest (c .before .loop .inv .1)))
     (λ c. c .before .loop .inv .1 .long)
     returns)

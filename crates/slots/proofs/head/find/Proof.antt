@@ -12,9 +12,6 @@ use Rattle.slots.proofs.head.find.Tie as tie
 length-found : (c : tie.After-image-length-at) → c .image-length-at .result ≡ imageLength (rowOf (c .before .before .args .word .number))
 length-found c = c .image-length-at .ensures ∙ ap imageLength (found-row _ (c .before .place-of .ensures))
 
-image-length-at-requires : tie.Need-image-length-at-requires
-image-length-at-requires c κs = slot-inside _ (c .before .pre) (c .place-of .ensures)
-
 cast-rest : tie.Need-cast-rest
 cast-rest c = record { fits = omega (arith, length-found c, slot-image _ (c .before .before .pre)) }
 
@@ -22,4 +19,4 @@ returns : tie.Need-returns
 returns c = rw (length-found c)
 
 pub find-spec : {M : Type 1} → statement M
-find-spec = tie.close (tie.spec (λ c κs. search needs) image-length-at-requires cast-rest returns)
+find-spec = tie.close (tie.spec (λ c κs. search needs) (λ c κs. slot-inside _ (c .before .pre) (c .place-of .ensures)) cast-rest returns)

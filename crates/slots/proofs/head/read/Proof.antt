@@ -92,9 +92,6 @@ returns-5 c =
     let at = c .before .before .before in
     c .refuse5 .ensures ∙ sym (head (at .before) ∙ word-no-slot _ _ (named at) (fails (c .before .before .is-slot-link .ensures) (c .before .if5 .taken)))
 
-find-requires : tie.Need-find-requires
-find-requires c κs = holds (c .before .is-slot-link .ensures) (c .if5 .left)
-
 returns-6 : tie.Need-returns-6
 returns-6 c =
     let at = c .before .before .before in
@@ -117,5 +114,5 @@ read-spec =
     returns-4
     (λ c κs. search needs) (λ c κs. search needs)
     returns-5
-    find-requires
+    (λ c κs. holds (c .before .is-slot-link .ensures) (c .if5 .left))
     returns-6)

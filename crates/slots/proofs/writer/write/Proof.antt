@@ -15,7 +15,7 @@ use Rattle.links.proofs.Search.{found-row}
 use Rattle.links.proofs.FoundRow.{row-is, row-good}
 use Rattle.slots.specs.Burst.{isSlotLink, burstLength}
 use Rattle.slots.proofs.Links.{slot-offered, slot-has-word, slot-inside, slot-image}
-use Rattle.slots.proofs.Writing.{counted, written}
+use Rattle.slots.proofs.Writing.{count-small, written}
 use Rattle.slots.proofs.writer.write.Statement.{statement}
 use Rattle.slots.proofs.writer.write.Tie as tie
 
@@ -44,9 +44,6 @@ room c = omega (arith, size (c .before), c .if3 .left)
 returns : tie.Need-returns
 returns c = refuses (write-unoffered _ _ (fails (c .before .before .is-slot-link .ensures) (c .before .if1 .taken))) (c .refuse .ensures)
 
-row-at-requires : tie.Need-row-at-requires
-row-at-requires c κs = inside c
-
 bytes-held-requires : tie.Need-bytes-held-requires
 bytes-held-requires c κs = sizes (c .row-at .result) (row-good _ (c .before .place-of .ensures) (c .row-at .ensures) (slot-offered _ (slot (c .before .before)))) .check
 
@@ -54,9 +51,6 @@ returns-2 : tie.Need-returns-2
 returns-2 c =
     let at = c .before .before in
     refuses (write-long _ _ (slot (at .before .before .before)) (omega (arith, held at, c .before .if2 .taken))) (c .refuse2 .ensures)
-
-image-length-at-requires : tie.Need-image-length-at-requires
-image-length-at-requires c κs = inside (c .before .before .before)
 
 add-if3 : tie.Need-add-if3
 add-if3 c = record { fits = omega (arith, size c, slot-image _ (slot (c .before .before .before .before .before))) }
@@ -70,11 +64,7 @@ lay-requires : tie.Need-lay-requires
 lay-requires c κs = (slot-has-word _ (slot (c .before .before .before .before .before .before .before)), omega (arith, c .before .if3 .left))
 
 add-done : tie.Need-add-done
-add-done c =
-    let passed = c .before .before .before .before .before .before .before .before .before in
-    let is-slot = slot (passed .before .before .before .before .before .before) in
-    let count = counted _ is-slot _ (fits (passed .before .before)) _ _ _ (room passed) (c .before .before .before .before .before .before .before .lay .ensures) (c .before .before .before .write .ensures) in
-    record { fits = omega (arith, count, slot-image _ is-slot) }
+add-done c = record { fits = omega (arith, count-small _ _ _ (c .before .before .before .write .ensures)) }
 
 returns-4 : tie.Need-returns-4
 returns-4 c =
@@ -91,11 +81,11 @@ write-spec =
     (λ c κs. search needs) (λ c κs. search needs)
     returns
     (λ c κs. search needs)
-    row-at-requires
+    (λ c κs. inside c)
     bytes-held-requires
     (λ c κs. search needs)
     returns-2
-    image-length-at-requires
+    (λ c κs. inside (c .before .before .before))
     add-if3
     (λ c κs. search needs)
     returns-3
