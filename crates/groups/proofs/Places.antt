@@ -8,6 +8,7 @@ use native.Mathlib.Numerals.{add-one}
 use native.Mathlib.Omega.{arith}
 use lib.ListN.{length, getD, take, drop, replicate, length-append, length-replicate, length-take}
 use lib.Seq.{getD-take, length-take-le}
+use Rattle.lists.specs.Over.{Room}
 use Rattle.lists.proofs.Parts.{map-more, map-done}
 use Rattle.links.specs.Patterns.{flagsAt}
 use Rattle.turbo.specs.Coded.{passed}
@@ -17,12 +18,15 @@ use Rattle.groups.specs.working.Together.{passedFrom}
 use Rattle.groups.specs.working.Group.{placesOf, placesFrom}
 
 -- how many they are at most
-length-twice : {A : Type 0} (flags : List ℕ) (xs : List A) → AtMostTwice flags → length (passed flags xs) ≤ 2 * length xs
+pub length-twice : {A : Type 0} (flags : List ℕ) (xs : List A) → AtMostTwice flags → length (passed flags xs) ≤ 2 * length xs
 unfolding passed
 length-twice [] xs h = zero-le
 length-twice (flag ∷ flags) [] h = zero-le
 length-twice (flag ∷ flags) (x ∷ xs) h =
     omega (arith, length-append (replicate flag x) (passed flags xs), length-replicate flag x, h 0, length-twice flags xs (λ i. h (suc i)))
+
+pub room-twice : (flags xs out : List ℕ) (at : ℕ) → AtMostTwice flags → at + 2 * length xs ≤ length out → Room at (passed flags xs) out
+room-twice flags xs out at h e = omega (arith, length-twice flags xs h, e)
 
 length-places : (pattern : List (List ℕ)) → ((s : ℕ) → AtMostTwice (flagsAt pattern s)) → (s n : ℕ) → length (passedFrom pattern s (placesFrom s n)) ≤ 12 * n
 unfolding passedFrom placesFrom placesOf

@@ -12,14 +12,14 @@ take-x-requires c κs =
       start .pre .0 .good,
       start .pre .1,
       c .before .before .before .before .scramble .kept .1 .1 .0 ∙ c .before .before .before .before .before .before .before .before .before .copy .kept .1 .0 ∙ start .pre .2,
-      plain-bits (a .came .now) _ _ _ _ (start .pre .0 .bits) (c .before .before .before .before .before .before .before .before .before .copy .ensures) (c .before .before .before .before .before .before .load .ensures) (c .before .before .before .before .scramble .ensures),
+      plain-bits (a .came .now) _ _ _ _ (start .pre .0 .bits) (c .before .before .before .before .before .before .before .before .before .copy .ensures) (c .before .before .before .before .scramble .ensures),
     )
 
 returns : tie.Need-returns
 returns c =
     let start = c .before .before .before .before .before .before .before .before .before .before .before .before .before .before .before .before .before in
     let a = start .args in
-    received-is (a .came .now) _ _ _ _ (start .pre .0 .bits) (c .before .before .before .before .before .before .before .before .before .before .before .before .copy .ensures) (c .before .before .before .before .before .before .before .before .before .load .ensures) (c .before .before .before .before .before .before .before .scramble .ensures) (a .row) _ (c .before .before .take-x .ensures)
+    received-is (a .came .now) _ _ _ _ (start .pre .0 .bits) (c .before .before .before .before .before .before .before .before .before .before .before .before .copy .ensures) (c .before .before .before .before .before .before .before .scramble .ensures) (c .before .before .before .before .before .before .before .before .before .load .ensures) (a .row) _ (c .before .before .take-x .ensures)
 
 pub receive-spec : {M : Type 1} → statement M
 receive-spec =
