@@ -1,13 +1,12 @@
 -- Clock by clock: the places that pass from clock c on are left to lay. Assumes nothing.
 use mathlib.Core.Path.{_≡_}
 use mathlib.Core.List.{[]}
-use Prim.Native.Nat.{_+_, _-_, _*_, _%_, _≤_}
+use Prim.Native.Nat.{_-_, _*_, _%_, _≤_}
 use native.Mathlib.Nat.{mod-lt, sub-zero}
 use native.Mathlib.Omega.{arith}
 use lib.ListN.{length, getD, take}
 use Rattle.lists.specs.working.Laying.{Laying}
 use Rattle.lists.proofs.Over.{start, more-piece, done}
-use Rattle.turbo.specs.Coded.{passed}
 use Rattle.groups.specs.working.Together.{passedFrom}
 use Rattle.groups.specs.working.Group.{placesOf, placesFrom}
 use Rattle.groups.proofs.Places.{length-twice, room-twice, placesLeft, places-room, places-more, places-done}
