@@ -19,7 +19,7 @@ use Rattle.blocks.proofs.Calls.{read-length}
 use Rattle.links.specs.Rows.{rows, placeIn, offered, rowOf}
 use Rattle.links.specs.Sizes.{bytesHeld, imageLength}
 use Rattle.links.proofs.Table.{image-lengths}
-use Rattle.messages.specs.Step.{fillAt, messageAt, stepAt, stepMessage}
+use Rattle.messages.specs.Step.{zerosAt, messageAt, stepAt, stepMessage}
 use Rattle.slots.specs.Burst.{headOf, blockPart, isSlotLink}
 use Rattle.slots.specs.Calls.{both, readSlot, refused as slot-refused}
 use Rattle.slots.proofs.Answered.{rest-joined}
@@ -72,5 +72,5 @@ short-7 rest room size =
     (λ e. omega (arith, e, size, length-map (blockPart (headOf 7 ++ rest)) byte, ap length (block-of 7 rest), images .2)))
 
 pub cases : Cases
-unfolding generator withRows wordOf every fillAt messageAt stepAt stepMessage
-cases = record { P1 = refl; P2 = refl; P3 = refl; P4 = seven-wrong; P5 = eight-wrong; P6 = nine-wrong; P7 = (p7-y0, p7-y1); P8 = p8; P9 = p9; P10 = (held-by-12, too-long); P11 = (refl, refl, refl); P12 = (refl, refl, refl); short-7 = short-7; burst-lengths = rw (images .0, images .1, images .2) }
+unfolding generator withRows wordOf every zerosAt messageAt stepAt stepMessage
+cases = record { P1 = refl; P2 = refl; P3 = refl; P4 = seven-wrong; P5 = eight-wrong; P6 = nine-wrong; P7 = (p7-y0, p7-y1); P8 = p8; P9 = p9; P10 = (held-by-12, too-long); P11 = (refl, refl, refl); P12 = (refl, refl, refl); K1-spoilt = (refl, refl, refl); K1-ends = (refl, refl, refl, refl); K1-passed = (refl, refl, refl); short-7 = short-7; burst-lengths = rw (images .0, images .1, images .2) }

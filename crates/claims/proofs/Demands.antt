@@ -22,7 +22,7 @@ use Rattle.blocks.proofs.Exact as exact
 use Rattle.blocks.proofs.WaysOfReading as rb
 use Rattle.slots.specs.Calls.{slotTask}
 use Rattle.slots.proofs.WaysOfReading as rs
-use Rattle.messages.proofs.Stepping.{step-goes, answer-inside, finished-exact, found-exact}
+use Rattle.messages.proofs.Stepping.{step-goes, answer-inside, spoilt-exact, finished-exact, found-exact}
 use Rattle.messages.proofs.Tiling.{walks-tile, walks-fill}
 use Rattle.messages.proofs.Walk.{walk-ends, walks-one}
 use Rattle.claims.specs.Demands.{Demand1, Demand2, Demand3}
@@ -95,7 +95,8 @@ demand2 = record {
   step-inside = λ datagram position answer e. rw e (answer-inside datagram position);
   message-found = λ datagram position answer e. rw e (found-exact datagram position);
   step-finished = λ datagram position answer e. rw e (finished-exact datagram position);
-  lie-refused = λ datagram size begins lie answer e. e ∙ messages.lie-refused datagram size begins lie;
+  step-spoilt = λ datagram position answer e. rw e (spoilt-exact datagram position);
+  lie-refused = λ datagram size position start passed begins lie answer e. e ∙ messages.lie-refused datagram size position start passed begins lie;
   walk-ends = walk-ends;
   walk-determined = λ datagram found found' last last' w v. walks-one datagram w v;
   walk-tiles = λ datagram found last w. walks-tile datagram (omega arith) w;

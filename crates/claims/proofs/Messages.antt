@@ -9,7 +9,7 @@ use Rattle.answers.specs.Numbers.{done, brokenMessage}
 use Rattle.links.specs.Rows.{rows, placeIn, rowOf}
 use Rattle.links.specs.Sizes.{bytesHeld}
 use Rattle.messages.specs.declared.Step.{Step}
-use Rattle.messages.specs.Places.{byteAt, Fill, too-long}
+use Rattle.messages.specs.Places.{byteAt, PassedOver, Begins, too-long}
 use Rattle.messages.specs.Step as step
 use Rattle.messages.specs.working.Stepping.{Stepping, past, ends, spoils, breaks, finds}
 use Rattle.messages.specs.Tiling.{Tiles, bytesOf}
@@ -18,11 +18,10 @@ use Rattle.messages.proofs.Stepping.{step-goes, broken-exact}
 use Rattle.messages.proofs.Tiling.{walks-tile, tiles-count, tiles-bytes}
 use Rattle.claims.specs.Calls.{Stepped}
 
-pub lie-refused : (datagram : List ℕ) → length datagram ≡ bytesHeld (rowOf 5) → (Fill (byteAt datagram 0) → ⊥) → byteAt datagram 1 * 256 + byteAt datagram 2 ≡ 900
-    → step.stepMessage datagram 0 ≡ step.refused brokenMessage
+pub lie-refused : (datagram : List ℕ) → length datagram ≡ bytesHeld (rowOf 5) → (position start : ℕ) → PassedOver datagram position start → Begins datagram start
+    → byteAt datagram (start + 1) * 256 + byteAt datagram (start + 2) ≡ 900 → step.stepMessage datagram position ≡ step.refused brokenMessage
 unfolding rows placeIn rowOf
-lie-refused datagram size begins lie =
-    broken-exact datagram 0 .1 (record { inside = omega (arith, size); type = begins }, too-long (omega (arith, size)))
+lie-refused datagram size position start passed begins lie = broken-exact datagram position .1 (start, passed, (begins, too-long (omega (arith, size))))
 
 pub refused : (datagram : List ℕ) (position : ℕ) (answer : Step) → Stepped datagram position answer → (answer .status ≡ done → ⊥) → (answer .start ≡ 0) × (answer .length ≡ 0)
 refused datagram position answer e z = goes (step-goes datagram position)
@@ -32,12 +31,12 @@ refused datagram position answer e z = goes (step-goes datagram position)
 
     goes : Stepping datagram position → (answer .start ≡ 0) × (answer .length ≡ 0)
     goes (past h f) = zero f
-    goes (ends h fill f) = zero f
-    goes (spoils s f) = zero f
-    goes (breaks b h f) = zero f
-    goes (finds total whole f) = absurd (z (ap (λ (a : Step). a .status) (e ∙ f)))
+    goes (ends h f) = zero f
+    goes (spoils h f) = zero f
+    goes (breaks h f) = zero f
+    goes (finds start total passed whole f) = absurd (z (ap (λ (a : Step). a .status) (e ∙ f)))
 
-pub walk-bytes : (datagram : List ℕ) (found : List Step) (end : ℕ) → Tiles datagram 0 found end → bytesOf datagram found ++ drop end datagram ≡ datagram
+pub walk-bytes : (datagram : List ℕ) (found : List Step) (end : ℕ) → Tiles datagram 0 found end → bytesOf datagram 0 found ++ drop end datagram ≡ datagram
 walk-bytes datagram found end tiles = rw (← tiles-bytes datagram tiles) (take-append-drop end datagram)
 
 pub walk-count : (datagram : List ℕ) (found : List Step) (last : Step) → Walks datagram 0 found last → 7 * length found ≤ length datagram

@@ -130,8 +130,8 @@ module _ (datagram : List ℕ) (position : ℕ) (answer : Step) (e : calls.Stepp
   pub steps : Stepping datagram position → Given (calls.stepLines datagram position) (answer .status)
   unfolding Given
   steps (past h f) = inl (h, status-step f)
-  steps (breaks b h f) = inr (other f (past-exact datagram position .1) (λ z. omega (arith, z)), inl ((b, h), status-step f))
-  steps (spoils s f) =
-      inr (other f (past-exact datagram position .1) (λ z. omega (arith, z)), inr (other f (broken-exact datagram position .1) (λ z. omega (arith, z)), inl (s, status-step f)))
-  steps (ends h fill f) = passes f refl
-  steps (finds total whole f) = passes f refl
+  steps (breaks h f) = inr (other f (past-exact datagram position .1) (λ z. omega (arith, z)), inl (h, status-step f))
+  steps (spoils h f) =
+      inr (other f (past-exact datagram position .1) (λ z. omega (arith, z)), inr (other f (broken-exact datagram position .1) (λ z. omega (arith, z)), inl (h, status-step f)))
+  steps (ends h f) = passes f refl
+  steps (finds start total passed whole f) = passes f refl

@@ -23,7 +23,7 @@ use Rattle.slots.specs.declared.Slot.{Slot}
 use Rattle.slots.specs.Burst.{training, headLength, headPart, trainingPart, wordPart, blockPart, isSlotLink}
 use Rattle.slots.specs.Calls.{slotTask, writeSlot, readSlot}
 use Rattle.messages.specs.declared.Step.{Step}
-use Rattle.messages.specs.Places.{Spoilt, Begins, Broken}
+use Rattle.messages.specs.Places.{Behind, Spoilt, BrokenAt}
 use Rattle.messages.specs.Step.{stepMessage}
 use Rattle.printer_text.specs.declared.Text.{Text}
 use Rattle.printer_text.specs.Lines.{textOf}
@@ -124,12 +124,13 @@ wordLines burst behind =
 abbrev pub readSlotLines : List ℕ → ℕ → Lines
 readSlotLines burst room = trainingLines burst (wordLines burst (restLines (named burst) (blockPart burst) room))
 
--- position past the end; then fewer than 3 bytes left, length below 7, or message past the end; or fill that holds another byte
+-- position past the end; then, behind the 81s that are passed over, a message with fewer than 3 bytes left, length below 7, or past the
+-- end; or a byte other than 0 after a 0
 abbrev pub stepLines : List ℕ → ℕ → Lines
 stepLines datagram position =
     line pastEnd (length datagram < position)
-    (line brokenMessage (Begins datagram position × Broken datagram position)
-    (line brokenFill (Spoilt datagram position)
+    (line brokenMessage (Behind datagram position (BrokenAt datagram))
+    (line brokenFill (Behind datagram position (Spoilt datagram))
     none))
 
 -- ---- what readers answer

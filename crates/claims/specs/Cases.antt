@@ -4,7 +4,7 @@ use mathlib.Core.Bool.{Bool, true, false, not}
 use mathlib.Core.List.{List, [], _∷_, _++_, map}
 use Prim.Native.Nat.{ℕ, zero, suc}
 use lib.ListN.{length, take, drop, replicate}
-use Rattle.answers.specs.Numbers.{wrongLength, noWord, pastEnd, brokenMessage}
+use Rattle.answers.specs.Numbers.{wrongLength, noWord, pastEnd, brokenMessage, brokenFill}
 use Rattle.answers.specs.Outcome.{refusal}
 use Rattle.bits.specs.Bits.{byte}
 use Rattle.blocks.specs.Calls.{writeBlock}
@@ -61,6 +61,12 @@ pub record Cases : Type 0 where
   pub P11 : (stepMessage (declaring 7) 0 ≡ message 0 7) × (stepMessage (declaring 7) 7 ≡ finished) × (stepMessage (declaring 7) 9 ≡ step-refused pastEnd)
   -- the same with length 8, and with 9 or 6
   pub P12 : (stepMessage (declaring 8) 0 ≡ message 0 8) × (stepMessage (declaring 9) 0 ≡ step-refused brokenMessage) × (stepMessage (declaring 6) 0 ≡ step-refused brokenMessage)
+  -- document 02, K1: 81 0 81, formerly finished; asked from 2; 0 81
+  pub K1-spoilt : (stepMessage (81 ∷ 0 ∷ 81 ∷ []) 0 ≡ step-refused brokenFill) × (stepMessage (81 ∷ 0 ∷ 81 ∷ []) 2 ≡ finished) × (stepMessage (0 ∷ 81 ∷ []) 0 ≡ step-refused brokenFill)
+  -- 81, 81 0 and the empty rest are finished, 81 1 is a message with fewer than 3 bytes
+  pub K1-ends : (stepMessage (81 ∷ []) 0 ≡ finished) × (stepMessage (81 ∷ 0 ∷ []) 0 ≡ finished) × (stepMessage [] 0 ≡ finished) × (stepMessage (81 ∷ 1 ∷ []) 0 ≡ step-refused brokenMessage)
+  -- a message behind 81 81; the partner's two messages of 7, each padded with an 81
+  pub K1-passed : (stepMessage (81 ∷ 81 ∷ declaring 7) 0 ≡ message 2 7) × (stepMessage (declaring 7 ++ declaring 7) 7 ≡ message 8 7) × (stepMessage (declaring 7 ++ declaring 7) 15 ≡ finished)
   -- a slot burst of 480 bits under link 7's word
   pub short-7 : (rest : List Bool) (room : ℕ) → length rest ≡ 394 → readSlot (map byte (headOf 7 ++ rest)) room ≡ slot-refused wrongLength
   -- the lengths of slot bursts

@@ -6,7 +6,7 @@ use mathlib.Core.List.{List, [], _∷_, _++_, map}
 use Prim.Native.Nat.{ℕ, _+_, _*_, _<_, _≤_}
 use lib.ListN.{length, getD, take, drop}
 use Rattle.answers.specs.declared.Written.{Written}
-use Rattle.answers.specs.Numbers.{done, noWord, noBlock, brokenMessage}
+use Rattle.answers.specs.Numbers.{done, noWord, noBlock, brokenMessage, brokenFill}
 use Rattle.bits.specs.Bits.{isOne, byte}
 use Rattle.bits.specs.Datagram.{allBytes}
 use Rattle.bits.specs.Row.{differences, flip}
@@ -27,7 +27,7 @@ use Rattle.slots.specs.declared.Slot.{Slot}
 use Rattle.slots.specs.Burst.{trainingPart, wordPart, blockPart, isSlotLink, burstLength, burstOf}
 use Rattle.slots.specs.Near.{Near as NearBurst}
 use Rattle.messages.specs.declared.Step.{Step}
-use Rattle.messages.specs.Places.{byteAt, Fill, FillFrom, Whole}
+use Rattle.messages.specs.Places.{byteAt, PassedOver, Behind, FillLeft, Spoilt, Begins, Whole}
 use Rattle.messages.specs.Step.{finished, message, refused as stepRefused}
 use Rattle.messages.specs.Tiling.{Tiles, Tiled, bytesOf}
 use Rattle.messages.specs.Walk.{Walks, walk}
@@ -127,28 +127,31 @@ pub record Demand2 : Type 0 where
   -- zeros at a datagram's end are kept: a reader answers all the bytes that the link holds
   pub blocks-full : (link : ℕ) (bits old new : List ℕ) (answer : Block) → ReadBlock link bits old new answer → answer .status ≡ done → answer .count ≡ bytesHeld (rowOf link)
   pub slots-full : (burst old new : List ℕ) (answer : Slot) → ReadSlot burst old new answer → answer .status ≡ done → answer .count ≡ bytesHeld (rowOf (answer .link))
-  -- "Messages are divided as document 01 says." Whatever a step answers lies inside the datagram
+  -- "Messages are divided as document 01 says", with document 02's K1. Whatever a step answers lies inside the datagram
   pub step-inside : (datagram : List ℕ) (position : ℕ) (answer : Step) → Stepped datagram position answer → answer .start + answer .length ≤ length datagram
-  -- a message is answered exactly where one begins that is as long as it declares, at least 7, and ends inside the datagram
+  -- a message is answered exactly where, behind 81s alone, one begins that is as long as it declares, at least 7, and ends inside the datagram
   pub message-found : (datagram : List ℕ) (position : ℕ) (answer : Step) → Stepped datagram position answer → (start total : ℕ)
-      → ((answer ≡ message start total) × (0 < total)) ↔ ((start ≡ position) × Whole datagram position total)
-  -- "finished": at the end, or where all bytes from the position on are 0 or 81
-  pub step-finished : (datagram : List ℕ) (position : ℕ) (answer : Step) → Stepped datagram position answer
-      → (answer ≡ finished) ↔ ((position ≤ length datagram) × FillFrom datagram position)
-  -- the lie of last spring: any burst of one slot whose message declares 900 bytes
-  pub lie-refused : (datagram : List ℕ) → length datagram ≡ bytesHeld (rowOf 5) → (Fill (byteAt datagram 0) → ⊥) → byteAt datagram 1 * 256 + byteAt datagram 2 ≡ 900
-      → (answer : Step) → Stepped datagram 0 answer → answer ≡ stepRefused brokenMessage
+      → ((answer ≡ message start total) × (0 < total)) ↔ (PassedOver datagram position start × Whole datagram start total)
+  -- "finished": exactly where 81s and then zeros alone are left
+  pub step-finished : (datagram : List ℕ) (position : ℕ) (answer : Step) → Stepped datagram position answer → (answer ≡ finished) ↔ FillLeft datagram position
+  -- 10: exactly where, behind 81s alone, a 0 stands, and behind it a byte other than 0
+  pub step-spoilt : (datagram : List ℕ) (position : ℕ) (answer : Step) → Stepped datagram position answer
+      → (answer ≡ stepRefused brokenFill) ↔ Behind datagram position (Spoilt datagram)
+  -- the lie of last spring: any burst of one slot whose message, also behind 81s, declares 900 bytes
+  pub lie-refused : (datagram : List ℕ) → length datagram ≡ bytesHeld (rowOf 5) → (position start : ℕ) → PassedOver datagram position start → Begins datagram start
+      → byteAt datagram (start + 1) * 256 + byteAt datagram (start + 2) ≡ 900 → (answer : Step) → Stepped datagram position answer → answer ≡ stepRefused brokenMessage
   -- stepping from 0, each next step at start + length, ends, and with one outcome
   pub walk-ends : (datagram : List ℕ) → Walks datagram 0 (walk datagram .found) (walk datagram .last)
   pub walk-determined : (datagram : List ℕ) (found found' : List Step) (last last' : Step) → Walks datagram 0 found last → Walks datagram 0 found' last'
       → (found ≡ found') × (last ≡ last')
-  -- the messages found lie end to end from 0 to a place where fill begins or a step is refused; there is at most one to seven bytes
+  -- the messages found lie in order from 0, with only 81s before and between them, to a place where a step is finished or refused; there is
+  -- at most one to seven bytes
   pub walk-tiles : (datagram : List ℕ) (found : List Step) (last : Step) → Walks datagram 0 found last → Tiled datagram 0 found last
   pub walk-count : (datagram : List ℕ) (found : List Step) (last : Step) → Walks datagram 0 found last → 7 * length found ≤ length datagram
-  -- if it ends in "finished", all behind the last message is fill
-  pub walk-fill : (datagram : List ℕ) (found : List Step) → Walks datagram 0 found finished → (end : ℕ) × Tiles datagram 0 found end × FillFrom datagram end
-  -- the bytes of the messages and those behind them are the datagram
-  pub walk-bytes : (datagram : List ℕ) (found : List Step) (end : ℕ) → Tiles datagram 0 found end → bytesOf datagram found ++ drop end datagram ≡ datagram
+  -- if it ends in "finished", behind the last message are 81s and then zeros
+  pub walk-fill : (datagram : List ℕ) (found : List Step) → Walks datagram 0 found finished → (end : ℕ) × Tiles datagram 0 found end × FillLeft datagram end
+  -- the messages, the 81s before and between them and what is left behind are the datagram
+  pub walk-bytes : (datagram : List ℕ) (found : List Step) (end : ℕ) → Tiles datagram 0 found end → bytesOf datagram 0 found ++ drop end datagram ≡ datagram
 
 pub record Demand3 : Type 0 where
   -- "One wrong bit in a block or link word is always mended": what was written, with any one place of the block inverted

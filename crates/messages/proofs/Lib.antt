@@ -1,5 +1,6 @@
 pub mod Places
 pub mod Stepping
 pub mod Tiling
+pub mod Turns
 pub mod Walk
 pub mod Ways

@@ -1,69 +1,73 @@
--- The tests of a step say what document 01 says of the places of a datagram.
+-- The tests of a step say what the documents say of the places of a datagram, and how bytes that are passed over are counted.
 -- Assumes nothing.
-use mathlib.Core.Path.{_≡_, refl, sym, ap, _∙_, subst}
-use mathlib.Core.Logic.{inl, inr, by-cases}
-use mathlib.Core.Bool.{Bool, true, false, true≢false}
+use mathlib.Core.Path.{_≡_, refl, sym, ap, _∙_}
+use mathlib.Core.Logic.{by-cases}
+use mathlib.Core.Bool.{Bool, true, false}
 use mathlib.Core.List.{List}
-use Prim.Native.Nat.{ℕ, _+_, _-_, _<_}
-use native.Mathlib.Nat.{add-zero}
+use Prim.Native.Nat.{ℕ, zero, suc, _+_, _-_, _<_, _≤_}
 use native.Mathlib.Decide.{ℕ-discrete}
 use native.Mathlib.Omega.{arith}
 use lib.ListN.{length, getD, drop, length-drop}
 use lib.Seq.{getD-drop}
-use borrow.Author.Tests.{eqb-true, ne-eqb}
+use borrow.Author.Tests.{eqb-true, eqb-false, eq-eqb}
 use Rattle.lists.proofs.Every.{every-each, each-every, every-fails}
-use Rattle.messages.specs.Fill.{isFill, onlyFill}
-use Rattle.messages.specs.Places.{byteAt, Fill, FillFrom, Spoilt, totalAt}
+use Rattle.messages.specs.Fill.{isZero, onlyZeros}
+use Rattle.messages.specs.Places.{byteAt, PassedOver, ZerosFrom, Spoilt, totalAt}
 use Rattle.messages.specs.Step.{declaredLength}
 
--- ---- a byte
-pub fill-is : (b : ℕ) → isFill b ≡ true → Fill b
-fill-is b e = by-cases (ℕ-discrete b 0) inl (λ ne. inr (eqb-true b 81 (rw (ne-eqb b 0 ne) at e)))
+module _ (datagram : List ℕ) where
+  -- ---- bytes that are passed over
+  pub passed-none : (position : ℕ) → position ≤ length datagram → PassedOver datagram position position
+  passed-none position h = record { onward = omega arith; inside = h; each = λ n l u. absurd (omega arith) }
 
-pub is-fill : (b : ℕ) → Fill b → isFill b ≡ true
-is-fill b (inl e) = rw e
-is-fill b (inr e) = rw e
-
-pub fill-not : (b : ℕ) → isFill b ≡ false → Fill b → ⊥
-fill-not b e f = true≢false (sym (is-fill b f) ∙ e)
-
-pub not-fill : (b : ℕ) → (Fill b → ⊥) → isFill b ≡ false
-not-fill b h = simp (ne-eqb b 0 (λ e. h (inl e)), ne-eqb b 81 (λ e. h (inr e)))
-
--- ---- what is left from a position on
-module _ (datagram : List ℕ) (position : ℕ) where
-  pub left-first : getD (drop position datagram) 0 0 ≡ byteAt datagram position
-  left-first = getD-drop position datagram 0 0 ∙ ap (byteAt datagram) (add-zero position)
-
-  pub left-declares : declaredLength (drop position datagram) ≡ totalAt datagram position
-  left-declares = rw (getD-drop position datagram 1 0, getD-drop position datagram 2 0)
-
-  pub only-from : onlyFill (drop position datagram) ≡ true → FillFrom datagram position
-  only-from e place h l =
-      let k = place - position in
-      let here : getD (drop position datagram) k 0 ≡ byteAt datagram place = getD-drop position datagram k 0 ∙ ap (byteAt datagram) (omega arith) in
-      subst Fill here (fill-is _ (every-each isFill 0 (drop position datagram) e k (omega (arith, length-drop position datagram))))
-
-  pub from-only : FillFrom datagram position → onlyFill (drop position datagram) ≡ true
-  from-only f =
-      each-every isFill 0 (drop position datagram)
-      (λ k l. ap isFill (getD-drop position datagram k 0) ∙ is-fill _ (f (position + k) (omega arith) (omega (arith, length-drop position datagram))))
-
-  pub spoilt-at : position < length datagram → Fill (byteAt datagram position) → onlyFill (drop position datagram) ≡ false → Spoilt datagram position
-  spoilt-at h f e =
-      let at = every-fails isFill 0 (drop position datagram) e in
-      record {
-        inside = h;
-        fill = f;
-        place = position + at .0;
-        behind = omega arith;
-        before = omega (arith, at .1, length-drop position datagram);
-        other = fill-not _ (ap isFill (sym (getD-drop position datagram (at .0) 0)) ∙ at .2);
-      }
-
-  pub spoilt-only : Spoilt datagram position → onlyFill (drop position datagram) ≡ false
-  spoilt-only s = decided (onlyFill (drop position datagram)) refl
+  passed-one : (position place : ℕ) → byteAt datagram position ≡ 81 → PassedOver datagram (position + 1) place → PassedOver datagram position place
+  passed-one position place e p = record { onward = omega (arith, p .onward); inside = p .inside; each = each }
     where
-      decided : (b : Bool) → onlyFill (drop position datagram) ≡ b → onlyFill (drop position datagram) ≡ false
-      decided true e = absurd (s .other (only-from e (s .place) (s .behind) (s .before)))
+      each : (n : ℕ) → position ≤ n → n < place → byteAt datagram n ≡ 81
+      each n l u = by-cases (ℕ-discrete n position) (λ same. ap (byteAt datagram) same ∙ e) (λ other. p .each n (omega arith) u)
+
+  -- they end somewhere: at the end, or at another byte
+  abbrev pub Ended : ℕ → Type 0
+  Ended position = (place : ℕ) × PassedOver datagram position place × (place < length datagram → byteAt datagram place ≡ 81 → ⊥)
+
+  passed-to : (n position : ℕ) → position + n ≡ length datagram → Ended position
+  passed-to zero position h = (position, passed-none position (omega arith), λ l e. absurd (omega arith))
+  passed-to (suc n) position h =
+      let ended = passed-to n (position + 1) (omega arith) in
+      by-cases (ℕ-discrete (byteAt datagram position) 81)
+      (λ e. (ended .0, passed-one position (ended .0) e (ended .1), ended .2))
+      (λ other. (position, passed-none position (omega arith), λ l. other))
+
+  pub passed-ends : (position : ℕ) → position ≤ length datagram → Ended position
+  passed-ends position h = passed-to (length datagram - position) position (omega arith)
+
+-- ---- what is left from a place on
+module _ (datagram : List ℕ) (place : ℕ) where
+  pub left-declares : declaredLength (drop place datagram) ≡ totalAt datagram place
+  left-declares = rw (getD-drop place datagram 1 0, getD-drop place datagram 2 0)
+
+  pub only-from : onlyZeros (drop place datagram) ≡ true → ZerosFrom datagram place
+  only-from e n h l =
+      let k = n - place in
+      let here : getD (drop place datagram) k 0 ≡ byteAt datagram n = getD-drop place datagram k 0 ∙ ap (byteAt datagram) (omega arith) in
+      sym here ∙ eqb-true _ 0 (every-each isZero 0 (drop place datagram) e k (omega (arith, length-drop place datagram)))
+
+  pub from-only : ZerosFrom datagram place → onlyZeros (drop place datagram) ≡ true
+  from-only z =
+      each-every isZero 0 (drop place datagram)
+      (λ k l. eq-eqb _ 0 (getD-drop place datagram k 0 ∙ z (place + k) (omega arith) (omega (arith, length-drop place datagram))))
+
+  pub spoilt-at : byteAt datagram place ≡ 0 → onlyZeros (drop place datagram) ≡ false → Spoilt datagram place
+  spoilt-at z e =
+      let at = every-fails isZero 0 (drop place datagram) e in
+      let other = place + at .0 in
+      let differs : byteAt datagram other ≡ 0 → ⊥ = λ y. eqb-false _ 0 (at .2) (getD-drop place datagram (at .0) 0 ∙ y) in
+      let apart : other ≡ place → ⊥ = λ same. differs (ap (byteAt datagram) same ∙ z) in
+      record { zero = z; other = other; behind = omega (arith, apart); inside = omega (arith, at .1, length-drop place datagram); differs = differs }
+
+  pub spoilt-only : Spoilt datagram place → onlyZeros (drop place datagram) ≡ false
+  spoilt-only s = decided (onlyZeros (drop place datagram)) refl
+    where
+      decided : (b : Bool) → onlyZeros (drop place datagram) ≡ b → onlyZeros (drop place datagram) ≡ false
+      decided true e = absurd (s .differs (only-from e (s .other) (omega (arith, s .behind)) (s .inside)))
       decided false e = e

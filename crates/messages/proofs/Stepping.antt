@@ -1,97 +1,126 @@
--- A step goes one of five ways, and each of its answers is given exactly where document 01 says.
+-- A step goes one of five ways, and each of its answers is given exactly where the documents say.
 -- Assumes nothing.
 use mathlib.Core.Path.{_≡_, refl, sym, ap, _∙_}
-use mathlib.Core.Logic.{_↔_}
+use mathlib.Core.Logic.{_↔_, by-cases}
 use mathlib.Core.Bool.{Bool, true, false}
 use mathlib.Core.List.{List}
-use Prim.Native.Nat.{ℕ, _+_, _<_, _≤_}
+use Prim.Native.Nat.{ℕ, zero, suc, _+_, _-_, _<_, _≤_}
+use native.Mathlib.Decide.{ℕ-discrete}
 use native.Mathlib.Omega.{arith}
 use lib.Dec.{ltb}
 use lib.ListN.{length, drop, length-drop}
 use borrow.Author.Tests.{ltb-true, ltb-false}
 use Rattle.answers.specs.Numbers.{pastEnd, brokenMessage, brokenFill}
 use Rattle.messages.specs.declared.Step.{Step}
-use Rattle.messages.specs.Fill.{isFill, onlyFill}
-use Rattle.messages.specs.Places.{byteAt, Fill, FillFrom, Spoilt, Begins, totalAt, Broken, too-few, too-small, too-long, Whole}
-use Rattle.messages.specs.Step.{refused, finished, message, messageAt, stepMessage}
+use Rattle.messages.specs.Fill.{onlyZeros}
+use Rattle.messages.specs.Places.{byteAt, PassedOver, Behind, ZerosFrom, FillLeft, Spoilt, Begins, totalAt, Broken, too-few, too-small, too-long, BrokenAt, Whole}
+use Rattle.messages.specs.Step.{refused, finished, message, messageAt, stepFrom, stepMessage}
 use Rattle.messages.specs.working.Stepping.{Stepping, past, ends, spoils, breaks, finds}
-use Rattle.messages.proofs.Places.{fill-is, is-fill, fill-not, not-fill, left-first, left-declares, only-from, from-only, spoilt-at, spoilt-only}
-use Rattle.messages.proofs.Ways.{same-status, same-start, same-length, fill-broken, message-few, message-small, message-long, message-whole, step-only, step-fill, step-begins, step-past, step-within}
+use Rattle.messages.proofs.Places.{passed-ends, left-declares, only-from, from-only, spoilt-at, spoilt-only}
+use Rattle.messages.proofs.Ways.{same-status, same-start, same-length, zeros-only, zeros-broken, message-few, message-small, message-long, message-whole, step-end, step-passes, step-zeros, step-begins, step-past, step-within}
+
+module _ (datagram : List ℕ) where
+  -- ---- what is passed over does not change the answer
+  over : (n position place : ℕ) → position + n ≡ place → PassedOver datagram position place → stepFrom datagram position ≡ stepFrom datagram place
+  over zero position place h p = ap (stepFrom datagram) (omega arith)
+  over (suc n) position place h p =
+      step-passes datagram position (omega (arith, p .inside)) (p .each position (omega arith) (omega arith))
+      ∙ over n (position + 1) place (omega arith) (record { onward = omega arith; inside = p .inside; each = λ m l u. p .each m (omega arith) u })
+
+  from-place : (position place : ℕ) → PassedOver datagram position place → stepMessage datagram position ≡ stepFrom datagram place
+  from-place position place p =
+      step-within datagram position (omega (arith, p .onward, p .inside)) ∙ over (place - position) position place (omega (arith, p .onward)) p
+
+  -- ---- a step from a place, by what stands there
+  zeros-answer : (place : ℕ) → ZerosFrom datagram place → stepFrom datagram place ≡ finished
+  zeros-answer place z = decided (ltb place (length datagram)) refl
+    where
+      decided : (inside : Bool) → ltb place (length datagram) ≡ inside → stepFrom datagram place ≡ finished
+      decided true i =
+          let h = ltb-true _ _ i in
+          step-zeros datagram place h (z place (omega arith) h) ∙ zeros-only (drop place datagram) (from-only datagram place z)
+      decided false i = step-end datagram place (ltb-false _ _ i)
+
+  spoilt-answer : (place : ℕ) → Spoilt datagram place → stepFrom datagram place ≡ refused brokenFill
+  spoilt-answer place s =
+      step-zeros datagram place (omega (arith, s .behind, s .inside)) (s .zero) ∙ zeros-broken (drop place datagram) (spoilt-only datagram place s)
+
+  begins-answer : (place : ℕ) → Begins datagram place → stepFrom datagram place ≡ messageAt place (drop place datagram)
+  begins-answer place b = step-begins datagram place (b .inside) (b .no-fill) (b .no-zero)
+
+  broken-answer : (place : ℕ) → BrokenAt datagram place → stepFrom datagram place ≡ refused brokenMessage
+  broken-answer place (b, broken) = begins-answer place b ∙ refuses broken
+    where
+      refuses : Broken datagram place → messageAt place (drop place datagram) ≡ refused brokenMessage
+      refuses (too-few h) = message-few place (drop place datagram) (omega (arith, length-drop place datagram))
+      refuses (too-small h) = message-small place (drop place datagram) (rw (left-declares datagram place) h)
+      refuses (too-long h) = message-long place (drop place datagram) (omega (arith, b .inside, length-drop place datagram, left-declares datagram place))
+
+  whole-answer : (place total : ℕ) → Whole datagram place total → stepFrom datagram place ≡ message place total
+  whole-answer place total w =
+      let same = left-declares datagram place ∙ sym (w .declares) in
+      begins-answer place (w .begins)
+      ∙ message-whole place (drop place datagram) (rw same (w .least)) (rw (same, length-drop place datagram) (omega (arith, w .ends)))
+      ∙ ap (message place) same
 
 module _ (datagram : List ℕ) (position : ℕ) where
   -- ---- what each way answers
-  ends-answers : position ≤ length datagram → FillFrom datagram position → stepMessage datagram position ≡ finished
-  ends-answers h f = step-within datagram position h ∙ step-only position (drop position datagram) (from-only datagram position f)
+  ends-answers : FillLeft datagram position → stepMessage datagram position ≡ finished
+  ends-answers (place, p, zeros) = from-place datagram position place p ∙ zeros-answer datagram place zeros
 
-  some-left : position < length datagram → 0 < length (drop position datagram)
-  some-left h = omega (arith, length-drop position datagram)
+  spoils-answers : Behind datagram position (Spoilt datagram) → stepMessage datagram position ≡ refused brokenFill
+  spoils-answers (place, p, s) = from-place datagram position place p ∙ spoilt-answer datagram place s
 
-  spoils-answers : Spoilt datagram position → stepMessage datagram position ≡ refused brokenFill
-  spoils-answers s =
-      let left = drop position datagram in
-      step-within datagram position (omega (arith, s .inside))
-      ∙ step-fill position left (some-left (s .inside)) (ap isFill (left-first datagram position) ∙ is-fill _ (s .fill))
-      ∙ fill-broken left (spoilt-only datagram position s)
+  breaks-answers : Behind datagram position (BrokenAt datagram) → stepMessage datagram position ≡ refused brokenMessage
+  breaks-answers (place, p, broken) = from-place datagram position place p ∙ broken-answer datagram place broken
 
-  begins-answers : Begins datagram position → stepMessage datagram position ≡ messageAt position (drop position datagram)
-  begins-answers b =
-      step-within datagram position (omega (arith, b .inside))
-      ∙ step-begins position (drop position datagram) (some-left (b .inside)) (ap isFill (left-first datagram position) ∙ not-fill _ (b .type))
-
-  broken-at : position < length datagram → Broken datagram position → messageAt position (drop position datagram) ≡ refused brokenMessage
-  broken-at i (too-few h) = message-few position (drop position datagram) (omega (arith, length-drop position datagram))
-  broken-at i (too-small h) = message-small position (drop position datagram) (rw (left-declares datagram position) h)
-  broken-at i (too-long h) = message-long position (drop position datagram) (omega (arith, length-drop position datagram, left-declares datagram position))
-
-  breaks-answers : Begins datagram position → Broken datagram position → stepMessage datagram position ≡ refused brokenMessage
-  breaks-answers b broken = begins-answers b ∙ broken-at (b .inside) broken
-
-  finds-answers : (total : ℕ) → Whole datagram position total → stepMessage datagram position ≡ message position total
-  finds-answers total w =
-      let same = left-declares datagram position ∙ sym (w .declares) in
-      begins-answers (w .begins)
-      ∙ message-whole position (drop position datagram) (rw same (w .least)) (rw (same, length-drop position datagram) (omega (arith, w .ends)))
-      ∙ ap (message position) same
+  finds-answers : (start total : ℕ) → PassedOver datagram position start → Whole datagram start total → stepMessage datagram position ≡ message start total
+  finds-answers start total p w = from-place datagram position start p ∙ whole-answer datagram start total w
 
   -- ---- one of the five ways it goes
-  begun : Begins datagram position → Stepping datagram position
-  begun b = decided (ltb (length datagram) (position + 3)) (ltb total 7) (ltb (length datagram) (position + total)) refl refl refl
+  begun : (place : ℕ) → PassedOver datagram position place → Begins datagram place → Stepping datagram position
+  begun place p b = decided (ltb (length datagram) (place + 3)) (ltb total 7) (ltb (length datagram) (place + total)) refl refl refl
     where
       total : ℕ
-      total = totalAt datagram position
+      total = totalAt datagram place
 
-      broken : Broken datagram position → Stepping datagram position
-      broken w = breaks b w (breaks-answers b w)
+      broken : Broken datagram place → Stepping datagram position
+      broken w = let behind : Behind datagram position (BrokenAt datagram) = (place, p, (b, w)) in breaks behind (breaks-answers behind)
 
-      decided : (few small long : Bool) → ltb (length datagram) (position + 3) ≡ few → ltb total 7 ≡ small → ltb (length datagram) (position + total) ≡ long → Stepping datagram position
+      decided : (few small long : Bool) → ltb (length datagram) (place + 3) ≡ few → ltb total 7 ≡ small → ltb (length datagram) (place + total) ≡ long → Stepping datagram position
       decided true small long f s l = broken (too-few (ltb-true _ _ f))
       decided false true long f s l = broken (too-small (ltb-true _ _ s))
       decided false false true f s l = broken (too-long (ltb-true _ _ l))
       decided false false false f s l =
-          let whole : Whole datagram position total = record { begins = b; declares = refl; least = ltb-false _ _ s; ends = ltb-false _ _ l } in
-          finds total whole (finds-answers total whole)
+          let whole : Whole datagram place total = record { begins = b; declares = refl; least = ltb-false _ _ s; ends = ltb-false _ _ l } in
+          finds place total p whole (finds-answers place total p whole)
 
-  filled : position < length datagram → Fill (byteAt datagram position) → Stepping datagram position
-  filled h f = decided (onlyFill (drop position datagram)) refl
+  left : (place : ℕ) → PassedOver datagram position place → ZerosFrom datagram place → Stepping datagram position
+  left place p z = let behind : FillLeft datagram position = (place, p, z) in ends behind (ends-answers behind)
+
+  filled : (place : ℕ) → PassedOver datagram position place → byteAt datagram place ≡ 0 → Stepping datagram position
+  filled place p z = decided (onlyZeros (drop place datagram)) refl
     where
-      decided : (only : Bool) → onlyFill (drop position datagram) ≡ only → Stepping datagram position
-      decided true e = let all = only-from datagram position e in ends (omega arith) all (ends-answers (omega arith) all)
-      decided false e = let spoilt = spoilt-at datagram position h f e in spoils spoilt (spoils-answers spoilt)
+      decided : (only : Bool) → onlyZeros (drop place datagram) ≡ only → Stepping datagram position
+      decided true e = left place p (only-from datagram place e)
+      decided false e = let behind : Behind datagram position (Spoilt datagram) = (place, p, spoilt-at datagram place z e) in spoils behind (spoils-answers behind)
+
+  within : position ≤ length datagram → Stepping datagram position
+  within h = let ended = passed-ends datagram position h in decided (ended .0) (ended .1) (ended .2) (ltb (ended .0) (length datagram)) refl
+    where
+      decided : (place : ℕ) → PassedOver datagram position place → (place < length datagram → byteAt datagram place ≡ 81 → ⊥)
+          → (inside : Bool) → ltb place (length datagram) ≡ inside → Stepping datagram position
+      decided place p other true i =
+          by-cases (ℕ-discrete (byteAt datagram place) 0) (filled place p)
+          (λ no-zero. begun place p (record { inside = ltb-true _ _ i; no-fill = other (ltb-true _ _ i); no-zero = no-zero }))
+      decided place p other false i = left place p (λ n l u. absurd (omega (arith, ltb-false place (length datagram) i)))
 
   pub step-goes : Stepping datagram position
-  step-goes = decided (ltb (length datagram) position) (ltb position (length datagram)) (isFill (byteAt datagram position)) refl refl refl
+  step-goes = decided (ltb (length datagram) position) refl
     where
-      at-end : length datagram ≤ position → FillFrom datagram position
-      at-end h place l i = absurd (omega arith)
-
-      decided : (beyond inside fill : Bool) → ltb (length datagram) position ≡ beyond → ltb position (length datagram) ≡ inside
-          → isFill (byteAt datagram position) ≡ fill → Stepping datagram position
-      decided true inside fill b i f = past (ltb-true _ _ b) (step-past datagram position (ltb-true _ _ b))
-      decided false false fill b i f =
-          let none = at-end (ltb-false _ _ i) in
-          ends (ltb-false _ _ b) none (ends-answers (ltb-false _ _ b) none)
-      decided false true true b i f = filled (ltb-true _ _ i) (fill-is _ f)
-      decided false true false b i f = begun (record { inside = ltb-true _ _ i; type = fill-not _ f })
+      decided : (beyond : Bool) → ltb (length datagram) position ≡ beyond → Stepping datagram position
+      decided true b = past (ltb-true _ _ b) (step-past datagram position (ltb-true _ _ b))
+      decided false b = within (ltb-false _ _ b)
 
   -- ---- two ways never answer the same: the status differs, or the length
   no-status : {a b : Step} {A : Type 0} → stepMessage datagram position ≡ a → stepMessage datagram position ≡ b → (a .status ≡ b .status → ⊥) → A
@@ -106,54 +135,53 @@ module _ (datagram : List ℕ) (position : ℕ) where
     where
       goes : Stepping datagram position → stepMessage datagram position ≡ refused pastEnd → length datagram < position
       goes (past h q) e = h
-      goes (ends h f q) e = no-status e q (omega arith)
-      goes (spoils s q) e = no-status e q (omega arith)
-      goes (breaks b w q) e = no-status e q (omega arith)
-      goes (finds n w q) e = no-status e q (omega arith)
+      goes (ends h q) e = no-status e q (omega arith)
+      goes (spoils h q) e = no-status e q (omega arith)
+      goes (breaks h q) e = no-status e q (omega arith)
+      goes (finds start total p w q) e = no-status e q (omega arith)
 
-  pub broken-exact : (stepMessage datagram position ≡ refused brokenMessage) ↔ (Begins datagram position × Broken datagram position)
-  broken-exact = (λ e. goes step-goes e, λ h. breaks-answers (h .0) (h .1))
+  pub broken-exact : (stepMessage datagram position ≡ refused brokenMessage) ↔ Behind datagram position (BrokenAt datagram)
+  broken-exact = (λ e. goes step-goes e, breaks-answers)
     where
-      goes : Stepping datagram position → stepMessage datagram position ≡ refused brokenMessage → Begins datagram position × Broken datagram position
+      goes : Stepping datagram position → stepMessage datagram position ≡ refused brokenMessage → Behind datagram position (BrokenAt datagram)
       goes (past h q) e = no-status e q (omega arith)
-      goes (ends h f q) e = no-status e q (omega arith)
-      goes (spoils s q) e = no-status e q (omega arith)
-      goes (breaks b w q) e = (b, w)
-      goes (finds n w q) e = no-status e q (omega arith)
+      goes (ends h q) e = no-status e q (omega arith)
+      goes (spoils h q) e = no-status e q (omega arith)
+      goes (breaks h q) e = h
+      goes (finds start total p w q) e = no-status e q (omega arith)
 
-  pub spoilt-exact : (stepMessage datagram position ≡ refused brokenFill) ↔ Spoilt datagram position
+  pub spoilt-exact : (stepMessage datagram position ≡ refused brokenFill) ↔ Behind datagram position (Spoilt datagram)
   spoilt-exact = (λ e. goes step-goes e, spoils-answers)
     where
-      goes : Stepping datagram position → stepMessage datagram position ≡ refused brokenFill → Spoilt datagram position
+      goes : Stepping datagram position → stepMessage datagram position ≡ refused brokenFill → Behind datagram position (Spoilt datagram)
       goes (past h q) e = no-status e q (omega arith)
-      goes (ends h f q) e = no-status e q (omega arith)
-      goes (spoils s q) e = s
-      goes (breaks b w q) e = no-status e q (omega arith)
-      goes (finds n w q) e = no-status e q (omega arith)
+      goes (ends h q) e = no-status e q (omega arith)
+      goes (spoils h q) e = h
+      goes (breaks h q) e = no-status e q (omega arith)
+      goes (finds start total p w q) e = no-status e q (omega arith)
 
-  pub finished-exact : (stepMessage datagram position ≡ finished) ↔ ((position ≤ length datagram) × FillFrom datagram position)
-  finished-exact = (λ e. goes step-goes e, λ h. ends-answers (h .0) (h .1))
+  pub finished-exact : (stepMessage datagram position ≡ finished) ↔ FillLeft datagram position
+  finished-exact = (λ e. goes step-goes e, ends-answers)
     where
-      goes : Stepping datagram position → stepMessage datagram position ≡ finished → (position ≤ length datagram) × FillFrom datagram position
+      goes : Stepping datagram position → stepMessage datagram position ≡ finished → FillLeft datagram position
       goes (past h q) e = no-status e q (omega arith)
-      goes (ends h f q) e = (h, f)
-      goes (spoils s q) e = no-status e q (omega arith)
-      goes (breaks b w q) e = no-status e q (omega arith)
-      goes (finds n w q) e = no-length e q (omega (arith, w .least))
+      goes (ends h q) e = h
+      goes (spoils h q) e = no-status e q (omega arith)
+      goes (breaks h q) e = no-status e q (omega arith)
+      goes (finds start total p w q) e = no-length e q (omega (arith, w .least))
 
   -- "finished" has length 0, so a message is an answer with a length
-  pub found-exact : (start total : ℕ) → ((stepMessage datagram position ≡ message start total) × (0 < total)) ↔ ((start ≡ position) × Whole datagram position total)
-  found-exact start total =
-      (λ h. goes step-goes (h .0) (h .1), λ h. (finds-answers total (h .1) ∙ ap (λ (s : ℕ). message s total) (sym (h .0)), omega (arith, h .1 .least)))
+  pub found-exact : (start total : ℕ) → ((stepMessage datagram position ≡ message start total) × (0 < total)) ↔ (PassedOver datagram position start × Whole datagram start total)
+  found-exact start total = (λ h. goes step-goes (h .0) (h .1), λ h. (finds-answers start total (h .0) (h .1), omega (arith, h .1 .least)))
     where
-      goes : Stepping datagram position → stepMessage datagram position ≡ message start total → 0 < total → (start ≡ position) × Whole datagram position total
+      goes : Stepping datagram position → stepMessage datagram position ≡ message start total → 0 < total → PassedOver datagram position start × Whole datagram start total
       goes (past h q) e z = no-status e q (omega arith)
-      goes (ends h f q) e z = no-length e q (omega arith)
-      goes (spoils s q) e z = no-status e q (omega arith)
-      goes (breaks b w q) e z = no-status e q (omega arith)
-      goes (finds n w q) e z =
+      goes (ends h q) e z = no-length e q (omega arith)
+      goes (spoils h q) e z = no-status e q (omega arith)
+      goes (breaks h q) e z = no-status e q (omega arith)
+      goes (finds place n p w q) e z =
           let same = sym e ∙ q in
-          (same-start same, rw (same-length same) w)
+          rw (same-start same, same-length same) (p, w)
 
   -- whatever is answered lies inside the datagram
   pub answer-inside : stepMessage datagram position .start + stepMessage datagram position .length ≤ length datagram
@@ -161,7 +189,7 @@ module _ (datagram : List ℕ) (position : ℕ) where
     where
       goes : Stepping datagram position → stepMessage datagram position .start + stepMessage datagram position .length ≤ length datagram
       goes (past h q) = rw q (omega arith)
-      goes (ends h f q) = rw q (omega arith)
-      goes (spoils s q) = rw q (omega arith)
-      goes (breaks b w q) = rw q (omega arith)
-      goes (finds n w q) = rw q (w .ends)
+      goes (ends h q) = rw q (omega arith)
+      goes (spoils h q) = rw q (omega arith)
+      goes (breaks h q) = rw q (omega arith)
+      goes (finds start total p w q) = rw q (w .ends)

@@ -1,14 +1,17 @@
 -- The messages that stepping finds tile the datagram, in order, up to the place where it ends.
 -- Assumes nothing.
-use mathlib.Core.Path.{_≡_, sym, _∙_}
+use mathlib.Core.Path.{_≡_, sym, ap, _∙_}
 use mathlib.Core.Logic.{⊎-elim}
 use mathlib.Core.List.{List, _∷_, _++_, append-nil, append-assoc}
-use Prim.Native.Nat.{ℕ, _+_, _*_, _<_, _≤_}
+use Prim.Native.Nat.{ℕ, _+_, _-_, _*_, _<_, _≤_}
 use native.Mathlib.Omega.{arith}
-use lib.ListN.{length, take}
-use lib.Seq.{take-add}
+use lib.ListN.{length, take, drop, replicate, length-drop}
+use lib.Seq.{take-add, getD-take, getD-drop, length-take-le}
+use borrow.Author.Tests.{eq-eqb, eqb-true}
+use Rattle.lists.proofs.Every.{each-every, every-only}
 use Rattle.messages.specs.declared.Step.{Step}
-use Rattle.messages.specs.Places.{FillFrom}
+use Rattle.messages.specs.Fill.{isFill}
+use Rattle.messages.specs.Places.{PassedOver, FillLeft}
 use Rattle.messages.specs.Step.{finished, message, stepMessage}
 use Rattle.messages.specs.working.Stepping.{Stepping, past, ends, spoils, breaks, finds}
 use Rattle.messages.specs.Tiling.{Tiles, none, next, Stops, at-fill, at-spoilt, at-broken, Tiled, bytesOf}
@@ -24,10 +27,10 @@ module _ (datagram : List ℕ) where
     where
       go : Stepping datagram position → Stops datagram position (stepMessage datagram position)
       go (past l q) = absurd (omega arith)
-      go (ends l f q) = at-fill f q
+      go (ends f q) = at-fill f q
       go (spoils s q) = at-spoilt s q
-      go (breaks b w q) = at-broken b w q
-      go (finds n w q) = absurd (omega (arith, same-length q, w .least))
+      go (breaks b q) = at-broken b q
+      go (finds start total p w q) = absurd (omega (arith, same-length q, w .least))
 
   one-more : {position : ℕ} {answer last : Step} {found : List Step} → answer ≡ stepMessage datagram position → 0 < answer .length
       → Tiled datagram (answer .start + answer .length) found last → Tiled datagram position (answer ∷ found) last
@@ -38,30 +41,42 @@ module _ (datagram : List ℕ) where
 
       found-one : One datagram position → Tiled datagram position (answer ∷ found) last
       found-one m =
-          let same : answer ≡ message position (m .0) = a ∙ m .2 in
+          let same : answer ≡ message (m .start) (m .total) = a ∙ m .answers in
           let behind = rw same at t in
-          rw same (record { end = behind .end; inside = behind .inside; tiles = next (m .1) (behind .tiles); rest = behind .rest })
+          rw same (record { end = behind .end; inside = behind .inside; tiles = next (m .passed) (m .whole) (behind .tiles); rest = behind .rest })
 
   pub walks-tile : {position : ℕ} {found : List Step} {last : Step} → position ≤ length datagram → Walks datagram position found last → Tiled datagram position found last
   walks-tile {position} h (stops a z) = record { end = position; inside = h; tiles = none; rest = rw a (rest-at position h (rw a at z)) }
   walks-tile {position} h (goes a l w) = one-more a l (walks-tile (rw a (answer-inside datagram position)) w)
 
-  -- ---- where stepping ends in "finished", all behind the last message is fill
+  -- ---- where stepping ends in "finished", nothing but fill is left behind the last message
   pub walks-fill : {position : ℕ} {found : List Step} → position ≤ length datagram → Walks datagram position found finished
-      → (end : ℕ) × Tiles datagram position found end × FillFrom datagram end
+      → (end : ℕ) × Tiles datagram position found end × FillLeft datagram end
   walks-fill {position} {found} h w = let t = walks-tile h w in go t (t .rest)
     where
-      go : (t : Tiled datagram position found finished) → Stops datagram (t .end) finished → (end : ℕ) × Tiles datagram position found end × FillFrom datagram end
+      go : (t : Tiled datagram position found finished) → Stops datagram (t .end) finished → (end : ℕ) × Tiles datagram position found end × FillLeft datagram end
       go t (at-fill f q) = (t .end, t .tiles, f)
       go t (at-spoilt s q) = absurd (omega (arith, same-status q))
-      go t (at-broken b w q) = absurd (omega (arith, same-status q))
+      go t (at-broken b q) = absurd (omega (arith, same-status q))
 
   -- ---- what tiling says
   pub tiles-count : {from to : ℕ} {found : List Step} → Tiles datagram from found to → from + 7 * length found ≤ to
   tiles-count none = omega arith
-  tiles-count (next w t) = omega (arith, w .least, tiles-count t)
+  tiles-count (next p w t) = omega (arith, p .onward, w .least, tiles-count t)
 
-  pub tiles-bytes : {from to : ℕ} {found : List Step} → Tiles datagram from found to → take to datagram ≡ take from datagram ++ bytesOf datagram found
+  -- the bytes that are passed over are as many 81s
+  passed-bytes : {position place : ℕ} → PassedOver datagram position place → take place datagram ≡ take position datagram ++ replicate (place - position) 81
+  passed-bytes {position} {place} p =
+      let n = place - position in
+      let between = take n (drop position datagram) in
+      let long : length between ≡ n = length-take-le n (drop position datagram) (omega (arith, p .onward, p .inside, length-drop position datagram)) in
+      let all = each-every isFill 0 between (λ k l. eq-eqb _ 81 (getD-take n (drop position datagram) k 0 (omega arith) ∙ getD-drop position datagram k 0 ∙ p .each (position + k) (omega arith) (omega (arith, p .onward)))) in
+      let to : place ≡ position + n = omega (arith, p .onward) in
+      ap (λ (m : ℕ). take m datagram) to
+      ∙ take-add position n datagram
+      ∙ ap (λ (l : List ℕ). take position datagram ++ l) (every-only isFill 81 (λ b e. eqb-true b 81 e) between all ∙ ap (λ (m : ℕ). replicate m 81) long)
+
+  pub tiles-bytes : {from to : ℕ} {found : List Step} → Tiles datagram from found to → take to datagram ≡ take from datagram ++ bytesOf datagram from found
   unfolding bytesOf
   tiles-bytes none = sym (append-nil _)
-  tiles-bytes (next {from = from} {total = total} w t) = tiles-bytes t ∙ rw (take-add from total datagram, append-assoc)
+  tiles-bytes (next {start = start} {total = total} p w t) = tiles-bytes t ∙ simp (take-add start total datagram, passed-bytes p, append-assoc)

@@ -8,7 +8,7 @@ use native.Mathlib.Omega.{arith}
 use lib.ListN.{length}
 use borrow.Author.Tests.{eq-eqb, ne-eqb}
 use Rattle.messages.specs.declared.Step.{Step}
-use Rattle.messages.specs.Places.{Whole}
+use Rattle.messages.specs.Places.{PassedOver, Whole}
 use Rattle.messages.specs.Step.{message, stepMessage}
 use Rattle.messages.specs.working.Stepping.{Stepping, past, ends, spoils, breaks, finds}
 use Rattle.messages.specs.Walk.{Walks, stops, goes, walkFrom, walk}
@@ -17,18 +17,22 @@ use Rattle.messages.proofs.Ways.{same-start, same-length}
 
 module _ (datagram : List ℕ) where
   -- ---- an answer has no length, or is a message
-  abbrev pub One : ℕ → Type 0
-  One position = (total : ℕ) × Whole datagram position total × (stepMessage datagram position ≡ message position total)
+  pub record One (position : ℕ) : Type 0 where
+    pub start : ℕ
+    pub total : ℕ
+    pub passed : PassedOver datagram position start
+    pub whole : Whole datagram start total
+    pub answers : stepMessage datagram position ≡ message start total
 
   pub none-or-one : (position : ℕ) → (stepMessage datagram position .length ≡ 0) ⊎ One position
   none-or-one position = go (step-goes datagram position)
     where
       go : Stepping datagram position → (stepMessage datagram position .length ≡ 0) ⊎ One position
       go (past h q) = inl (same-length q)
-      go (ends h f q) = inl (same-length q)
-      go (spoils s q) = inl (same-length q)
-      go (breaks b w q) = inl (same-length q)
-      go (finds n w q) = inr (n, w, q)
+      go (ends h q) = inl (same-length q)
+      go (spoils h q) = inl (same-length q)
+      go (breaks h q) = inl (same-length q)
+      go (finds start total p w q) = inr (record { start = start; total = total; passed = p; whole = w; answers = q })
 
   -- ---- stepping ends: every message takes bytes of what is left
   abbrev Ends : ℕ → ℕ → Type 0
@@ -36,7 +40,7 @@ module _ (datagram : List ℕ) where
 
   none-left : (position : ℕ) → length datagram - position ≤ 0 → Ends position 0
   unfolding walkFrom
-  none-left position h = stops refl (⊎-elim (λ z. z) (λ m. absurd (omega (arith, m .1 .begins .inside))) (none-or-one position))
+  none-left position h = stops refl (⊎-elim (λ z. z) (λ m. absurd (omega (arith, m .passed .onward, m .whole .begins .inside))) (none-or-one position))
 
   some-left : (position most : ℕ) → length datagram - position ≤ suc most → ((onward : ℕ) → length datagram - onward ≤ most → Ends onward most) → Ends position (suc most)
   unfolding walkFrom
@@ -47,10 +51,10 @@ module _ (datagram : List ℕ) where
 
       a-message : One position → Ends position (suc most)
       a-message m =
-          let start = same-start (m .2) in
-          let total = same-length (m .2) in
-          let long : 0 < stepMessage datagram position .length = omega (arith, total, m .1 .least) in
-          rw (ne-eqb (stepMessage datagram position .length) 0 (omega arith)) (goes refl long (onward _ (omega (arith, start, total, m .1 .ends))))
+          let start = same-start (m .answers) in
+          let total = same-length (m .answers) in
+          let long : 0 < stepMessage datagram position .length = omega (arith, total, m .whole .least) in
+          rw (ne-eqb (stepMessage datagram position .length) 0 (omega arith)) (goes refl long (onward _ (omega (arith, start, total, m .passed .onward, m .whole .ends))))
 
   ends-from : (position most : ℕ) → length datagram - position ≤ most → Ends position most
   ends-from position zero h = none-left position h

@@ -2,16 +2,17 @@
 -- Assumes nothing.
 use mathlib.Core.Path.{_≡_, refl, ap}
 use mathlib.Core.Bool.{Bool, true, false, cond}
-use mathlib.Core.List.{List, [], _∷_}
-use Prim.Native.Nat.{ℕ, _<_, _≤_}
+use mathlib.Core.List.{List}
+use Prim.Native.Nat.{ℕ, _+_, _<_, _≤_}
 use native.Mathlib.Omega.{arith}
-use lib.ListN.{length, getD, drop}
-use borrow.Author.Tests.{lt-ltb, le-ltb}
+use native.Mathlib.Numerals.{add-one}
+use lib.ListN.{length, getD, drop, drop-of-length-le}
+use lib.Seq.{drop-cons}
+use borrow.Author.Tests.{lt-ltb, le-ltb, ne-eqb}
 use Rattle.answers.specs.Numbers.{pastEnd, brokenMessage, brokenFill}
-use Rattle.lists.proofs.Every.{every-each}
 use Rattle.messages.specs.declared.Step.{Step}
-use Rattle.messages.specs.Fill.{isFill, onlyFill}
-use Rattle.messages.specs.Step.{refused, finished, message, declaredLength, fillAt, messageAt, stepAt, stepMessage}
+use Rattle.messages.specs.Fill.{onlyZeros}
+use Rattle.messages.specs.Step.{refused, finished, message, declaredLength, zerosAt, messageAt, stepAt, stepFrom, stepMessage}
 
 -- ---- equal answers are equal in each number
 module _ {a b : Step} (e : a ≡ b) where
@@ -24,14 +25,14 @@ module _ {a b : Step} (e : a ≡ b) where
   pub same-length : a .length ≡ b .length
   same-length = ap (λ (s : Step). s .length) e
 
--- ---- where fill begins
-pub fill-only : (left : List ℕ) → onlyFill left ≡ true → fillAt left ≡ finished
-unfolding fillAt
-fill-only left e = rw e
+-- ---- where the zero fill begins
+pub zeros-only : (left : List ℕ) → onlyZeros left ≡ true → zerosAt left ≡ finished
+unfolding zerosAt
+zeros-only left e = rw e
 
-pub fill-broken : (left : List ℕ) → onlyFill left ≡ false → fillAt left ≡ refused brokenFill
-unfolding fillAt
-fill-broken left e = rw e
+pub zeros-broken : (left : List ℕ) → onlyZeros left ≡ false → zerosAt left ≡ refused brokenFill
+unfolding zerosAt
+zeros-broken left e = rw e
 
 -- ---- where a message begins: each of the three tests refuses by itself
 either-way : (b : Bool) (answer : Step) → cond b answer answer ≡ answer
@@ -55,32 +56,30 @@ module _ (position : ℕ) (left : List ℕ) where
   unfolding messageAt
   message-whole h l = simp (le-ltb (length left) 3 (omega arith), le-ltb (declaredLength left) 7 h, le-ltb (length left) (declaredLength left) l)
 
--- ---- a step on what is left
-pub step-only : (position : ℕ) (left : List ℕ) → onlyFill left ≡ true → stepAt position left ≡ finished
-unfolding stepAt
-step-only position [] e = refl
-step-only position (b ∷ rest) e = rw (every-each isFill 0 (b ∷ rest) e 0 (omega arith)) (fill-only (b ∷ rest) e)
+-- ---- a step from a place: at the end, at a byte 81, at a byte 0, at another
+module _ (datagram : List ℕ) (place : ℕ) where
+  pub step-end : length datagram ≤ place → stepFrom datagram place ≡ finished
+  unfolding stepAt
+  step-end h = rw (drop-of-length-le datagram h)
 
-pub step-end : (position : ℕ) (left : List ℕ) → length left ≡ 0 → stepAt position left ≡ finished
-unfolding stepAt
-step-end position [] e = refl
-step-end position (b ∷ rest) e = absurd (omega arith)
+  module _ (h : place < length datagram) where
+    pub step-passes : getD datagram place 0 ≡ 81 → stepFrom datagram place ≡ stepFrom datagram (place + 1)
+    unfolding stepAt
+    step-passes e = rw (drop-cons datagram place 0 h, e, add-one)
 
-pub step-fill : (position : ℕ) (left : List ℕ) → 0 < length left → isFill (getD left 0 0) ≡ true → stepAt position left ≡ fillAt left
-unfolding stepAt
-step-fill position [] h e = absurd (omega arith)
-step-fill position (b ∷ rest) h e = rw e
+    pub step-zeros : getD datagram place 0 ≡ 0 → stepFrom datagram place ≡ zerosAt (drop place datagram)
+    unfolding stepAt
+    step-zeros e = rw (drop-cons datagram place 0 h, e)
 
-pub step-begins : (position : ℕ) (left : List ℕ) → 0 < length left → isFill (getD left 0 0) ≡ false → stepAt position left ≡ messageAt position left
-unfolding stepAt
-step-begins position [] h e = absurd (omega arith)
-step-begins position (b ∷ rest) h e = rw e
+    pub step-begins : (getD datagram place 0 ≡ 81 → ⊥) → (getD datagram place 0 ≡ 0 → ⊥) → stepFrom datagram place ≡ messageAt place (drop place datagram)
+    unfolding stepAt
+    step-begins p z = rw (drop-cons datagram place 0 h, ne-eqb _ 81 p, ne-eqb _ 0 z)
 
 -- ---- a step from a position
 pub step-past : (datagram : List ℕ) (position : ℕ) → length datagram < position → stepMessage datagram position ≡ refused pastEnd
 unfolding stepMessage
 step-past datagram position h = simp (lt-ltb (length datagram) position h)
 
-pub step-within : (datagram : List ℕ) (position : ℕ) → position ≤ length datagram → stepMessage datagram position ≡ stepAt position (drop position datagram)
+pub step-within : (datagram : List ℕ) (position : ℕ) → position ≤ length datagram → stepMessage datagram position ≡ stepFrom datagram position
 unfolding stepMessage
 step-within datagram position h = simp (le-ltb (length datagram) position h)

@@ -1,5 +1,5 @@
--- What a step through a datagram answers (document 01, "Messages in a datagram"; M.2092-1, Annex 4, 4.9). It is told of what is
--- left of the datagram and of the position where that begins.
+-- What a step through a datagram answers (document 01, "Messages in a datagram"; document 02, K1; M.2092-1, Annex 4, 4.9). It is told of
+-- what is left of the datagram and of the position where that begins.
 use mathlib.Core.Bool.{cond}
 use mathlib.Core.List.{List, [], _∷_}
 use Prim.Native.Nat.{ℕ, _+_, _*_}
@@ -7,7 +7,7 @@ use lib.Dec.{ltb}
 use lib.ListN.{length, getD, drop}
 use Rattle.answers.specs.Numbers.{done, pastEnd, brokenMessage, brokenFill}
 use Rattle.messages.specs.declared.Step.{Step}
-use Rattle.messages.specs.Fill.{isFill, onlyFill}
+use Rattle.messages.specs.Fill.{isFill, isZero, onlyZeros}
 
 -- a refusal: the number, and 0 for all else
 abbrev pub refused : ℕ → Step
@@ -25,9 +25,9 @@ message start n = record { status = done; start = start; length = n }
 abbrev pub declaredLength : List ℕ → ℕ
 declaredLength left = getD left 1 0 * 256 + getD left 2 0
 
--- where fill begins, all must be fill
-unfoldable pub fillAt : List ℕ → Step
-fillAt left = cond (onlyFill left) finished (refused brokenFill)
+-- where the zero fill begins, all must be 0
+unfoldable pub zerosAt : List ℕ → Step
+zerosAt left = cond (onlyZeros left) finished (refused brokenFill)
 
 -- where a message begins: three bytes for its type and length, a length of at least 7, and its end inside the datagram
 unfoldable pub messageAt : ℕ → List ℕ → Step
@@ -37,11 +37,18 @@ messageAt position left =
     (cond (ltb (length left) (declaredLength left)) (refused brokenMessage)
     (message position (declaredLength left))))
 
--- a step on what is left
+-- a step on what is left: a byte 81 is passed over alone, a byte 0 begins the zero fill, any other a message
 unfoldable pub stepAt : ℕ → List ℕ → Step
 stepAt position [] = finished
-stepAt position (b ∷ rest) = cond (isFill b) (fillAt (b ∷ rest)) (messageAt position (b ∷ rest))
+stepAt position (b ∷ rest) =
+    cond (isFill b) (stepAt (position + 1) rest)
+    (cond (isZero b) (zerosAt (b ∷ rest))
+    (messageAt position (b ∷ rest)))
+
+-- a step from a place of a datagram
+abbrev pub stepFrom : List ℕ → ℕ → Step
+stepFrom datagram place = stepAt place (drop place datagram)
 
 -- a step from a position of a datagram, in the order 8, then 9 or 10
 unfoldable pub stepMessage : List ℕ → ℕ → Step
-stepMessage datagram position = cond (ltb (length datagram) position) (refused pastEnd) (stepAt position (drop position datagram))
+stepMessage datagram position = cond (ltb (length datagram) position) (refused pastEnd) (stepFrom datagram position)

@@ -1,10 +1,11 @@
-// Stepping through the messages of a datagram (document 01, "Messages in a datagram"; M.2092-1, Annex 4, 4.9).
+// Stepping through the messages of a datagram (document 01, "Messages in a datagram"; document 02, K1; M.2092-1, Annex 4, 4.9).
 ghost use mathlib.Core.Path.{_≡_};
-ghost use Prim.Native.Nat.{_≤_};
+ghost use Prim.Native.Nat.{_<_, _≤_};
 ghost use lib.Dec.{ltb};
-ghost use lib.ListN.{length};
-ghost use Rattle.messages.specs.Fill.{isFill, onlyFill};
-ghost use Rattle.messages.specs.Step.{refused, finished, message, declaredLength, fillAt, messageAt, stepAt, stepMessage};
+ghost use lib.ListN.{length, getD};
+ghost use Rattle.messages.specs.Fill.{onlyZeros};
+ghost use Rattle.messages.specs.Step.{refused, finished, message, declaredLength, zerosAt, messageAt, stepMessage};
+ghost use Rattle.messages.specs.working.Turn.{Says};
 
 // What a step answers: where a message starts and its length.
 #[repr(C)]
@@ -13,6 +14,15 @@ pub struct Step {
     pub start: u64,
     pub length: u64,
 }
+
+// What a step of a bounded number of turns comes to: its answer, or the place behind the fill that it passed over.
+enum Turn {
+    Answer(Step),
+    Onward(usize),
+}
+
+// How deep the step and the fill call each other before the loop goes on: a long run of fill must not overrun the stack.
+const TURNS: usize = 16;
 
 fn refuse(status: u32) -> Step
     ensures { λ r. ⌜ r ≡ refused status ⌝ }
@@ -44,29 +54,24 @@ fn message(start: usize, total: usize) -> Step
     }
 }
 
-fn is_fill(byte: u8) -> bool
-    ensures { λ r. ⌜ r ≡ isFill byte ⌝ }
-{
-    byte == 0 || byte == 81
-}
-
-// Whether all of these bytes are fill.
-fn only_fill(bytes: &[u8]) -> bool
-    ensures { λ r. ⌜ r ≡ onlyFill (now (bytes .entry)) ⌝ }
+// Whether all of these bytes are 0.
+fn only_zeros(bytes: &[u8]) -> bool
+    ensures { λ r. ⌜ r ≡ onlyZeros (now (bytes .entry)) ⌝ }
 {
     for i in 0..bytes.len() {
-        if !is_fill(bytes[i]) {
+        let byte = bytes[i];
+        if byte != 0 {
             return false;
         }
     }
     true
 }
 
-// Where fill begins.
-fn fill_at(left: &[u8]) -> Step
-    ensures { λ r. ⌜ r ≡ fillAt (now (left .entry)) ⌝ }
+// Where the zero fill begins.
+fn zeros_at(left: &[u8]) -> Step
+    ensures { λ r. ⌜ r ≡ zerosAt (now (left .entry)) ⌝ }
 {
-    if only_fill(left) {
+    if only_zeros(left) {
         return finished();
     }
     refuse(10)
@@ -106,25 +111,51 @@ fn message_at(position: usize, left: &[u8]) -> Step
     message(position, total)
 }
 
-// A step on what is left of a datagram from a position on.
-fn step_at(position: usize, left: &[u8]) -> Step
-    ensures { λ r. ⌜ r ≡ stepAt position (now (left .entry)) ⌝ }
+// A step from a place. A byte 81 is handed to the fill, a byte 0 begins the zero fill, any other a message.
+fn step_at(datagram: &[u8], place: usize, turns: usize) -> Turn
+    requires { ⌜ turns ≤ 16 ⌝ }
+    ensures { λ r. ⌜ Says (now (datagram .entry)) place r ⌝ }
 {
-    if left.len() == 0 {
-        return finished();
+    if place >= datagram.len() {
+        return Turn::Answer(finished());
     }
-    if is_fill(left[0]) {
-        return fill_at(left);
+    let byte = datagram[place];
+    if byte == 81 {
+        return fill_at(datagram, place, turns);
     }
-    message_at(position, left)
+    let left = &datagram[place..];
+    if byte == 0 {
+        return Turn::Answer(zeros_at(left));
+    }
+    Turn::Answer(message_at(place, left))
 }
 
-// The message that begins at a position of a datagram, or that no more follow, or why none can be read there.
+// Fill is passed over: the step again at the next byte, unless the turns are used up.
+fn fill_at(datagram: &[u8], place: usize, turns: usize) -> Turn
+    requires { ⌜ place < length (now datagram) ⌝ }
+    requires { ⌜ getD (now datagram) place 0 ≡ 81 ⌝ }
+    requires { ⌜ turns ≤ 16 ⌝ }
+    ensures { λ r. ⌜ Says (now (datagram .entry)) place r ⌝ }
+{
+    let next = place + 1;
+    if turns == 0 {
+        return Turn::Onward(next);
+    }
+    step_at(datagram, next, turns - 1)
+}
+
+// The first message from a position of a datagram on, or that no more follow, or why none can be read there.
 pub fn step_message(datagram: &[u8], position: usize) -> Step
     ensures { λ r. ⌜ r ≡ stepMessage (now (datagram .entry)) position ⌝ }
 {
     if position > datagram.len() {
         return refuse(8);
     }
-    step_at(position, &datagram[position..])
+    let mut place = position;
+    loop {
+        match step_at(datagram, place, TURNS) {
+            Turn::Answer(step) => return step,
+            Turn::Onward(next) => place = next,
+        }
+    }
 }
