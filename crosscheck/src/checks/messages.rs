@@ -1,11 +1,11 @@
-//! The tests of steps through the messages of a datagram: the second implementation against
-//! document 01's cases, and the archive against the second implementation.
+//! The tests of steps through the messages of a datagram: the second implementation against the
+//! cases of documents 01 and 02, and the archive against the second implementation.
 
 use crate::harness::caller::Caller;
 use crate::harness::guarded::ROOM;
-use crate::harness::random::Random;
 use crate::harness::report::{named_tests, Given, NamedTest, Test};
 use crate::harness::requests::messages::StepMessage;
+use crate::harness::sent::some_datagram;
 use crate::second::messages::{step, Step};
 use crate::second::words::Refusal;
 use crate::second::Second;
@@ -15,6 +15,7 @@ pub const TESTS: &[NamedTest] = named_tests![
     second_steps_or_refuses,
     archive_steps_hold_p11_and_p12,
     archive_steps_or_refuses,
+    archive_steps_in_all_datagrams_of_0_1_7_81,
     archive_steps_in_all_datagrams_of_0_7_8_81,
     archive_steps_in_all_datagrams_of_eight_bytes,
     archive_steps_in_random_and_lying_datagrams,
@@ -49,13 +50,12 @@ fn typed_cases() -> Vec<StepCase> {
         (vec![], 0, Ok(Step::Finished)),
         (vec![], 1, Err(8)),
         (vec![0], 0, Ok(Step::Finished)),
-        (vec![81], 0, Ok(Step::Finished)),
-        (vec![81, 0, 81], 0, Ok(Step::Finished)),
         (vec![0, 81, 0, 0], 2, Ok(Step::Finished)),
         (vec![0, 1], 0, Err(10)),
-        (vec![81, 81, 82], 1, Err(10)),
+        (vec![0, 0, 74], 0, Err(10)),
         (vec![0, 0, 74], 3, Ok(Step::Finished)),
         (vec![0, 0, 74], 4, Err(8)),
+        (vec![0, 0, 7, 9, 9, 9, 9], 0, Err(10)),
         (vec![74], 0, Err(9)),
         (vec![74, 0], 0, Err(9)),
         (vec![74, 0, 7], 0, Err(9)),
@@ -64,13 +64,43 @@ fn typed_cases() -> Vec<StepCase> {
         (vec![1, 0, 7, 9, 9, 9], 0, Err(9)),
         (vec![1, 1, 7, 9, 9, 9, 9], 0, Err(9)),
         (vec![1, 0, 6, 9, 9, 9, 9], 0, Err(9)),
-        (vec![81, 0, 7, 9, 9, 9, 9], 0, Err(10)),
         (vec![5, 5, 2, 0, 8, 1, 1, 1, 1, 1], 2, message(2, 8)),
         (vec![5, 5, 2, 0, 9, 1, 1, 1, 1, 1], 2, Err(9)),
         (vec![5, 5, 2, 0, 8, 1, 1, 1, 1, 1], 10, Ok(Step::Finished)),
         (vec![5, 5, 2, 0, 8, 1, 1, 1, 1, 1], 11, Err(8)),
         (vec![5, 5, 2], usize::MAX, Err(8)),
     ]
+}
+
+/// Document 02's K1: 81s are passed over, and behind a 0 all must be 0.
+fn cases_of_k1() -> Vec<StepCase> {
+    let padded = || vec![74, 0, 7, 0, 0, 0, 1, 81, 75, 0, 7, 0, 0, 0, 2, 81, 81, 0];
+    vec![
+        (vec![81], 0, Ok(Step::Finished)),
+        (vec![81], 2, Err(8)),
+        (vec![81, 0], 0, Ok(Step::Finished)),
+        (vec![81, 0, 81], 0, Err(10)),
+        (vec![81, 0, 81], 1, Err(10)),
+        (vec![81, 0, 81], 2, Ok(Step::Finished)),
+        (vec![0, 81], 0, Err(10)),
+        (vec![81, 1], 0, Err(9)),
+        (vec![81, 81, 82], 1, Err(9)),
+        (vec![81, 0, 7, 9, 9, 9, 9], 0, Err(10)),
+        (vec![81, 81, 74, 0, 7, 0, 0, 0, 1], 0, message(2, 7)),
+        (vec![81, 81, 74, 0, 7, 0, 0, 0, 1], 1, message(2, 7)),
+        (vec![81, 81, 74, 0, 8, 0, 0, 0, 1], 0, Err(9)),
+        (vec![81, 81, 74, 0, 6, 0, 0, 0, 1], 0, Err(9)),
+        (padded(), 0, message(0, 7)),
+        (padded(), 7, message(8, 7)),
+        (padded(), 8, message(8, 7)),
+        (padded(), 15, Ok(Step::Finished)),
+        (padded(), 19, Err(8)),
+    ]
+}
+
+/// The cases above, but P11 and P12.
+fn known_cases() -> Vec<StepCase> {
+    [typed_cases(), cases_of_k1()].concat()
 }
 
 fn second_steps_hold_p11_and_p12(_: &Given, test: &mut Test) {
@@ -81,7 +111,7 @@ fn second_steps_hold_p11_and_p12(_: &Given, test: &mut Test) {
 }
 
 fn second_steps_or_refuses(_: &Given, test: &mut Test) {
-    for (datagram, position, answer) in typed_cases() {
+    for (datagram, position, answer) in known_cases() {
         let call = || format!("step at {position}, datagram {datagram:?}");
         test.case(call, answer, [step(&datagram, position)]);
     }
@@ -96,7 +126,7 @@ fn archive_steps_hold_p11_and_p12(_: &Given, test: &mut Test) {
 
 fn archive_steps_or_refuses(_: &Given, test: &mut Test) {
     let mut caller = Caller::new(test);
-    for (datagram, position, answer) in typed_cases() {
+    for (datagram, position, answer) in known_cases() {
         caller.expect(StepMessage(&datagram, position), answer);
     }
 }
@@ -129,6 +159,19 @@ fn all_datagrams(length: u32, bytes: &[u8]) -> impl Iterator<Item = Vec<u8>> + '
     })
 }
 
+/// Up to nine bytes, which two 81s and a message of 7 take, from all positions but the far ones.
+fn archive_steps_in_all_datagrams_of_0_1_7_81(given: &Given, test: &mut Test) {
+    let second = Second::read(&given.tables);
+    let mut caller = Caller::new(test);
+    for length in 0..=9 {
+        for datagram in all_datagrams(length, &[0, 1, 7, 81]) {
+            for position in 0..=datagram.len() + 1 {
+                caller.compare(&second, StepMessage(&datagram, position));
+            }
+        }
+    }
+}
+
 fn archive_steps_in_all_datagrams_of_0_7_8_81(given: &Given, test: &mut Test) {
     let second = Second::read(&given.tables);
     let mut caller = Caller::new(test);
@@ -145,117 +188,6 @@ fn archive_steps_in_all_datagrams_of_eight_bytes(given: &Given, test: &mut Test)
     for length in 0..=4 {
         for datagram in all_datagrams(length, &[0, 1, 6, 7, 8, 74, 81, 255]) {
             compare_at_all_positions(&mut caller, &second, &datagram);
-        }
-    }
-}
-
-/// The types of Table 33 but the two that are fill here.
-const TYPES: [u8; 11] = [4, 13, 20, 21, 22, 74, 75, 76, 90, 92, 93];
-
-/// A datagram as a true sender makes it, and where its messages start.
-struct Sent {
-    datagram: Vec<u8>,
-    starts: Vec<usize>,
-}
-
-fn sent(random: &mut Random) -> Sent {
-    let total = random.below(701);
-    let mut datagram = Vec::new();
-    let mut starts = Vec::new();
-    while total - datagram.len() >= 7 && random.below(8) > 0 {
-        let room = total - datagram.len();
-        let longest = if random.below(4) == 0 {
-            room
-        } else {
-            room.min(40)
-        };
-        let length = 7 + random.below(longest - 6);
-        starts.push(datagram.len());
-        datagram.push(TYPES[random.below(TYPES.len())]);
-        datagram.extend((length as u16).to_be_bytes());
-        datagram.extend(random.bytes(length - 3));
-    }
-    let fill = [[0, 0], [81, 81], [0, 81]][random.below(3)];
-    while datagram.len() < total {
-        datagram.push(fill[random.below(2)]);
-    }
-    Sent { datagram, starts }
-}
-
-/// The same with one field changed: a message's length, its type, any byte, or the datagram's end.
-fn lying(random: &mut Random, sent: &Sent) -> Vec<u8> {
-    let mut datagram = sent.datagram.clone();
-    if datagram.is_empty() {
-        return datagram;
-    }
-    let message = match sent.starts.len() {
-        0 => None,
-        count => Some(sent.starts[random.below(count)]),
-    };
-    match (random.below(5), message) {
-        (0 | 1, Some(start)) => {
-            let length = lying_length(random, &datagram, start);
-            datagram[start + 1..start + 3].copy_from_slice(&length.to_be_bytes());
-        }
-        (2, Some(start)) => datagram[start] = [0, 81, random.below(256) as u8][random.below(3)],
-        (3, _) => {
-            let place = random.below(datagram.len());
-            datagram[place] = random.below(256) as u8;
-        }
-        _ => {
-            let cut = 1 + random.below(datagram.len().min(9));
-            datagram.truncate(datagram.len() - cut);
-        }
-    }
-    datagram
-}
-
-/// A length that is too short, or near the true one, or near what is left, or large, or any.
-fn lying_length(random: &mut Random, datagram: &[u8], start: usize) -> u16 {
-    let told = u16::from_be_bytes([datagram[start + 1], datagram[start + 2]]);
-    let left = (datagram.len() - start) as u16;
-    let any = random.below(65_536) as u16;
-    let lies = [
-        0,
-        random.below(7) as u16,
-        6,
-        7,
-        told - 1,
-        told + 1,
-        left - 1,
-        left,
-        left + 1,
-        256,
-        256 + 7,
-        900,
-        told + 256,
-        65_535,
-        any,
-    ];
-    lies[random.below(lies.len())]
-}
-
-/// True ones, lying ones, random bytes, and bytes that are mostly fill.
-fn random_datagram(random: &mut Random) -> Vec<u8> {
-    match random.below(8) {
-        0 => sent(random).datagram,
-        1..=5 => {
-            let sent = sent(random);
-            lying(random, &sent)
-        }
-        6 => {
-            let length = random.below(701);
-            random.bytes(length)
-        }
-        _ => {
-            let length = random.below(701);
-            let fill = (0..length).map(|_| [0, 81][random.below(2)]);
-            let mut datagram: Vec<u8> = fill.collect();
-            for _ in 0..random.below(3).min(length) {
-                let place = random.below(length);
-                datagram[place] = random.below(256) as u8;
-            }
-            datagram
         }
     }
 }
@@ -277,7 +209,7 @@ fn archive_steps_in_random_and_lying_datagrams(given: &Given, test: &mut Test) {
     let mut random = test.random(900);
     let mut caller = Caller::new(test);
     for _ in 0..200_000 {
-        let datagram = random_datagram(&mut random);
+        let datagram = some_datagram(&mut random);
         walk(&mut caller, &second, &datagram);
         for _ in 0..3 {
             let position = random.below(datagram.len() + 3);
@@ -288,20 +220,24 @@ fn archive_steps_in_random_and_lying_datagrams(given: &Given, test: &mut Test) {
     }
 }
 
-/// A datagram of link 5, 32 bytes, whose message declares 900; of every type that is not fill.
+/// A datagram of link 5, 32 bytes, whose message declares 900: of every type that can begin one, at
+/// the start and behind as many 81s as leave room for its length.
 fn archive_refuses_the_lie_of_900_bytes(_: &Given, test: &mut Test) {
     let mut random = test.random(32);
     let mut caller = Caller::new(test);
     for kind in (1..=255).filter(|&kind| kind != 81) {
-        let mut datagram = random.bytes(32);
-        datagram[0] = kind;
-        datagram[1..3].copy_from_slice(&900u16.to_be_bytes());
-        caller.expect(StepMessage(&datagram, 0), Err(9));
+        for start in 0..=29 {
+            let mut datagram = random.bytes(32);
+            datagram[..start].fill(81);
+            datagram[start] = kind;
+            datagram[start + 1..start + 3].copy_from_slice(&900u16.to_be_bytes());
+            caller.expect(StepMessage(&datagram, 0), Err(9));
+        }
     }
 }
 
 /// Datagrams as long as the room: messages of the longest lengths that two bytes can tell, and fill
-/// with one other byte at its end.
+/// or zero fill with any of three bytes at its end.
 fn archive_steps_in_long_datagrams(given: &Given, test: &mut Test) {
     let second = Second::read(&given.tables);
     let mut caller = Caller::new(test);
@@ -314,8 +250,8 @@ fn archive_steps_in_long_datagrams(given: &Given, test: &mut Test) {
             }
             walk(&mut caller, &second, &datagram);
         }
-        for last in [0, 81, 1] {
-            let mut datagram = vec![81; length];
+        for (fill, last) in [(81, 81), (81, 0), (81, 1), (0, 0), (0, 81), (0, 1)] {
+            let mut datagram = vec![fill; length];
             datagram[length - 1] = last;
             for position in [0, 1, length - 2, length - 1, length, length + 1] {
                 caller.compare(&second, StepMessage(&datagram, position));
@@ -328,11 +264,11 @@ fn archive_steps_on_read_only_pages(given: &Given, test: &mut Test) {
     let second = Second::read(&given.tables);
     let mut random = test.random(81);
     let mut caller = Caller::with_read_only_input(test);
-    for (datagram, position, answer) in [p11_and_p12(), typed_cases()].concat() {
+    for (datagram, position, answer) in [p11_and_p12(), known_cases()].concat() {
         caller.expect(StepMessage(&datagram, position), answer);
     }
     for _ in 0..2000 {
-        let datagram = random_datagram(&mut random);
+        let datagram = some_datagram(&mut random);
         walk(&mut caller, &second, &datagram);
         let position = random.below(datagram.len() + 3);
         caller.compare(&second, StepMessage(&datagram, position));

@@ -11,5 +11,6 @@ pub mod random;
 pub mod report;
 pub mod requests;
 pub mod samples;
+pub mod sent;
 pub mod shown;
 pub mod tool;

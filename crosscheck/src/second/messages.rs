@@ -1,8 +1,9 @@
-//! Messages in a datagram (M.2092-1, Annex 4, 4.9; document 01, "Messages in a datagram").
+//! Messages in a datagram (M.2092-1, Annex 4, 4.9; document 01, "Messages in a datagram", as document
+//! 02's K1 changes it).
 
 use crate::second::words::Refusal;
 
-/// What a step finds at a position.
+/// What a step finds at a position or behind the fill that it passes over there.
 #[derive(Clone, Copy, Debug, PartialEq)]
 pub enum Step {
     Finished,
@@ -13,21 +14,21 @@ pub fn step(datagram: &[u8], position: usize) -> Result<Step, Refusal> {
     if position > datagram.len() {
         return Err(8);
     }
-    match &datagram[position..] {
+    let asked = &datagram[position..];
+    let passed_over = asked.iter().take_while(|&&byte| byte == 81).count();
+    match &asked[passed_over..] {
         [] => Ok(Step::Finished),
-        fill @ [0 | 81, ..] => {
-            if fill.iter().any(|&byte| byte != 0 && byte != 81) {
-                return Err(10);
-            }
-            Ok(Step::Finished)
-        }
+        [0, behind @ ..] => match behind.iter().all(|&byte| byte == 0) {
+            true => Ok(Step::Finished),
+            false => Err(10),
+        },
         rest @ [_type, high, low, ..] => {
             let length = 256 * usize::from(*high) + usize::from(*low);
             if length < 7 || length > rest.len() {
                 return Err(9);
             }
             Ok(Step::Message {
-                start: position,
+                start: position + passed_over,
                 length,
             })
         }
