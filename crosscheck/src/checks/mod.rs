@@ -3,6 +3,7 @@
 mod blocks_reading;
 mod blocks_writing;
 mod coding;
+mod fill;
 mod links;
 mod messages;
 mod outside;
@@ -31,6 +32,7 @@ pub fn all() -> Vec<NamedTest> {
         readers::TESTS,
         refusals::TESTS,
         messages::TESTS,
+        fill::TESTS,
         blocks_writing::TESTS,
         blocks_reading::TESTS,
         slots_writing::TESTS,

@@ -14,8 +14,12 @@ pub fn shown_to(limit: usize, row: &[u8]) -> String {
     format!("{} ({} bytes)", places.collect::<String>(), row.len())
 }
 
-/// A datagram, a long one cut short.
+/// A datagram, a long one without its middle.
 pub fn shown_datagram(datagram: &[u8]) -> String {
-    let start = &datagram[..datagram.len().min(64)];
-    format!("datagram {start:?} ({} bytes)", datagram.len())
+    let count = datagram.len();
+    if count <= 64 {
+        return format!("datagram {datagram:?} ({count} bytes)");
+    }
+    let (start, end) = (&datagram[..48], &datagram[count - 16..]);
+    format!("datagram {start:?} .. {end:?} ({count} bytes)")
 }

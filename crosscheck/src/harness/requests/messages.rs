@@ -22,18 +22,23 @@ impl Request for StepMessage<'_> {
     fn ask_archive(&self, caller: &mut Caller, expected: Self::Answer) {
         let StepMessage(datagram, position) = *self;
         let name = || format!("step_message at {position}, {}", shown_datagram(datagram));
-        let (status, start, length) = match expected {
-            Ok(Step::Finished) => (0, 0, 0),
-            Ok(Step::Message { start, length }) => (0, start as u64, length as u64),
-            Err(status) => (status, 0, 0),
-        };
-        let answer = Stepped {
-            status,
-            start,
-            length,
-        };
+        let answer = stepped(expected);
         caller.read(name, datagram, answer, |datagram| {
             archive::step_message(datagram, position)
         });
+    }
+}
+
+/// The answer of the C interface that says the same.
+pub fn stepped(answer: Result<Step, Refusal>) -> Stepped {
+    let (status, start, length) = match answer {
+        Ok(Step::Finished) => (0, 0, 0),
+        Ok(Step::Message { start, length }) => (0, start as u64, length as u64),
+        Err(status) => (status, 0, 0),
+    };
+    Stepped {
+        status,
+        start,
+        length,
     }
 }

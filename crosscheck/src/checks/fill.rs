@@ -1,0 +1,103 @@
+//! The tests of the fill that a step passes over (document 02, K1): runs of 81s of many lengths, each
+//! with all that may stand behind them, and runs far longer than a stack is deep.
+
+use crate::harness::archive::{self, Stepped};
+use crate::harness::caller::Caller;
+use crate::harness::report::{named_tests, Given, NamedTest, Test};
+use crate::harness::requests::messages::{stepped, StepMessage};
+use crate::second::messages::{step, Step};
+use crate::second::words::Refusal;
+use crate::second::Second;
+use std::iter;
+use std::thread::{self, Builder};
+
+pub const TESTS: &[NamedTest] = named_tests![
+    second_passes_over_runs_of_81,
+    archive_passes_over_runs_of_81,
+    archive_passes_over_16_mib_on_a_small_stack,
+];
+
+/// What stands behind a run of 81s, and what a step that passes over the run answers: the length of
+/// the message that begins there, 0 for "finished", or a refusal.
+type Ending = (&'static [u8], Result<usize, Refusal>);
+
+const ENDINGS: [Ending; 13] = [
+    (&[], Ok(0)),
+    (&[74, 0, 7, 0, 0, 0, 1], Ok(7)),
+    (&[74, 0, 8, 0, 0, 0, 1, 81, 81], Ok(8)),
+    (&[0], Ok(0)),
+    (&[0, 0, 0], Ok(0)),
+    (&[0, 81], Err(10)),
+    (&[0, 7], Err(10)),
+    (&[0, 74, 0, 7, 0, 0, 0, 1], Err(10)),
+    (&[74], Err(9)),
+    (&[74, 0], Err(9)),
+    (&[74, 0, 6, 0, 0, 0, 1], Err(9)),
+    (&[74, 0, 8, 0, 0, 0, 1], Err(9)),
+    (&[74, 3, 132, 0, 0, 0, 1, 0, 0, 0, 0], Err(9)),
+];
+
+/// The longest of the runs that are stepped into at every position.
+const LONGEST: usize = 300;
+
+fn datagram_of(run: usize, ending: &[u8]) -> Vec<u8> {
+    [&vec![81; run][..], ending].concat()
+}
+
+/// The answer of a step that passes over all 81s before this start.
+fn answer_at(start: usize, ending: Result<usize, Refusal>) -> Result<Step, Refusal> {
+    ending.map(|length| match length {
+        0 => Step::Finished,
+        _ => Step::Message { start, length },
+    })
+}
+
+fn second_passes_over_runs_of_81(_: &Given, test: &mut Test) {
+    for run in 0..=LONGEST {
+        for (ending, answer) in ENDINGS {
+            let datagram = datagram_of(run, ending);
+            for position in 0..=run {
+                let call = || format!("step at {position}, {run} bytes 81 and {ending:?}");
+                test.case(call, answer_at(run, answer), [step(&datagram, position)]);
+            }
+        }
+    }
+}
+
+/// From every position of the run, and from those behind it up to one past the end.
+fn archive_passes_over_runs_of_81(given: &Given, test: &mut Test) {
+    let second = Second::read(&given.tables);
+    let mut caller = Caller::new(test);
+    for run in 0..=LONGEST {
+        for (ending, answer) in ENDINGS {
+            let datagram = datagram_of(run, ending);
+            for position in 0..=run {
+                caller.expect(StepMessage(&datagram, position), answer_at(run, answer));
+            }
+            for position in run + 1..=datagram.len() + 1 {
+                caller.compare(&second, StepMessage(&datagram, position));
+            }
+        }
+    }
+}
+
+/// A step that keeps a frame for each byte passed over, as plain recursion does, overruns the stack:
+/// that ends the process, and so the test fails.
+fn archive_passes_over_16_mib_on_a_small_stack(_: &Given, test: &mut Test) {
+    let run = 16 << 20;
+    for (ending, answer) in ENDINGS {
+        let mut datagram = datagram_of(run, ending);
+        let call = || format!("step at 0, {run} bytes 81 and {ending:?}, 64 KiB of stack");
+        let calls = iter::once_with(|| step_on_a_small_stack(&mut datagram));
+        test.case(call, stepped(answer_at(run, answer)), calls);
+    }
+}
+
+fn step_on_a_small_stack(datagram: &mut [u8]) -> Stepped {
+    thread::scope(|scope| {
+        let thread = Builder::new().stack_size(64 << 10);
+        let started = thread.spawn_scoped(scope, || archive::step_message(datagram, 0));
+        let running = started.expect("a thread can be started");
+        running.join().expect("a step does not panic")
+    })
+}
