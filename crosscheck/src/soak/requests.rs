@@ -165,11 +165,14 @@ fn read_a_slot(second: &Second, random: &mut Random, caller: &mut Caller) {
     caller.compare(second, ReadSlot(&row, length));
 }
 
-/// Messages one behind the other, some of which lie about their length, with fill behind them that
-/// may hold another byte; stepped into where a message begins, or anywhere, or past the end.
+/// Messages with fill before, between and behind them, some of which lie about their length, then
+/// zeros, with now and then another byte anywhere; stepped into where a message or the fill before it
+/// begins, or anywhere, or past the end.
 fn step_once(second: &Second, random: &mut Random, caller: &mut Caller) {
     let (mut datagram, mut starts) = (Vec::new(), vec![0]);
     for _ in 0..random.below(5) {
+        lay_fill(&mut datagram, random);
+        starts.push(datagram.len());
         let length = 7 + random.below(300);
         let told = match random.below(6) {
             0 => random.below(1 << 16),
@@ -180,8 +183,8 @@ fn step_once(second: &Second, random: &mut Random, caller: &mut Caller) {
         datagram.extend(random.bytes(length - 3));
         starts.push(datagram.len());
     }
-    let fill = (0..random.below(20)).map(|_| [0, 81][random.below(2)]);
-    datagram.extend(fill.collect::<Vec<u8>>());
+    lay_fill(&mut datagram, random);
+    datagram.extend(vec![0; random.below(20)]);
     let datagram = lie(datagram, random);
     let position = match random.below(8) {
         0 => random.below(datagram.len() + 3),
@@ -189,4 +192,14 @@ fn step_once(second: &Second, random: &mut Random, caller: &mut Caller) {
         _ => starts[random.below(starts.len())],
     };
     caller.compare(second, StepMessage(&datagram, position));
+}
+
+/// None, a few or many bytes 81.
+fn lay_fill(datagram: &mut Vec<u8>, random: &mut Random) {
+    let count = match random.below(8) {
+        0..=2 => 0,
+        3..=6 => 1 + random.below(4),
+        _ => random.below(300),
+    };
+    datagram.extend(vec![81; count]);
 }
