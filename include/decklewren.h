@@ -1,5 +1,6 @@
 /* Decklewren: the burst coder of a VHF data exchange (VDES) module, ITU-R M.2092-1. For C11 and C++11; the archive is for x86-64
-   with the System V ABI. "Document 01" is the firm's document that sets the scope; where it differs from M.2092-1, it decides.
+   with the System V ABI. "Document 01" is the firm's document that sets the scope, "document 02" the list of changes to it; where
+   they differ from M.2092-1, they decide.
 
    THE CALLS keep nothing between them and need no preparing. Bits travel one to a byte, with the byte 0 or 1. Datagrams are plain
    bytes. Every call answers a struct whose status is 0 (done) or the number of a refusal.
@@ -46,7 +47,8 @@ extern "C" {
 #define DECKLEWREN_TEXT(major, minor, patch) DECKLEWREN_TEXT_OF(major, minor, patch)
 #define DECKLEWREN_VERSION DECKLEWREN_TEXT(DECKLEWREN_VERSION_MAJOR, DECKLEWREN_VERSION_MINOR, DECKLEWREN_VERSION_PATCH)
 
-/* The numbers a caller gets back as status (document 01, the table of that name): X(name, number, what it says). */
+/* The numbers a caller gets back as status (document 01, the table of that name; 10 by document 02, K1): X(name, number, what it
+   says). */
 #define DECKLEWREN_STATUSES(X)                                                                                                       \
     X(DECKLEWREN_DONE, 0, "done")                                                                                                    \
     X(DECKLEWREN_NOT_OFFERED, 1, "link not offered; number above 63 for a link word; slot burst not of link 5, 6, 7")                \
@@ -58,7 +60,7 @@ extern "C" {
     X(DECKLEWREN_NO_BLOCK, 7, "no valid block's image within one")                                                                   \
     X(DECKLEWREN_PAST_END, 8, "position past the end")                                                                               \
     X(DECKLEWREN_BROKEN_MESSAGE, 9, "fewer than 3 bytes left, length below 7, or message past the end")                              \
-    X(DECKLEWREN_BROKEN_FILL, 10, "fill holds another byte")
+    X(DECKLEWREN_BROKEN_FILL, 10, "a byte other than 0 after a 0")
 
 /* The links that are offered (document 01, "The links"): X(link, bytes of a datagram that it holds, N bits of its image). Images
    differ in two things from M.2092-1, because document 01 says so and outranks it: link 20 has 32 check bits in the place of 16, and
@@ -259,16 +261,19 @@ decklewren_written decklewren_write_slot(uint32_t link, const uint8_t *datagram,
              and they are the answer. So seven wrong bits of the word and one of the block are always mended */
 decklewren_slot decklewren_read_slot(const uint8_t *bits, size_t bits_len, uint8_t *out, size_t out_len);
 
-/* Finds the message that begins at a position of a datagram (M.2092-1, Annex 4, 4.9). To walk a datagram, step from 0, each next
-   time from start + length, until length is 0: the status then says whether it is finished or which refusal ended it.
-   Returns:  status with the message's start and total length, or with both 0 where no more follow ("finished")
+/* Finds the message that begins at a position of a datagram (M.2092-1, Annex 4, 4.9), or behind the bytes 81 there: these are fill,
+   which a step passes over, and may stand before, between and behind the messages. A byte 0 in the place of a type begins the zero
+   fill, which goes on to the end. To walk a datagram, step from 0, each next time from start + length, until length is 0: the
+   status then says whether it is finished or which refusal ended it.
+   Returns:  status with the message's start and total length, or with both 0 where no more follow ("finished"); start lies behind
+             the position where bytes 81 were passed over
    In:       datagram, and any position
    Out:      nothing
-   Refusals: 8 position past the end; then 9 fewer than 3 bytes left, length below 7, or message past the end, or
-             10 fill holds another byte
-   Proved:   start + length is at most datagram_len, whatever the bytes say; a message is answered exactly where one begins that
-             is as long as it declares, at least 7, and ends inside. The walk ends; its messages lie end to end from 0, and where
-             it is finished all bytes behind the last one are fill, 0 or 81 */
+   Refusals: 8 position past the end; then, behind the bytes 81 passed over, 9 fewer than 3 bytes left, length below 7, or message
+             past the end, or 10 a byte other than 0 after a 0
+   Proved:   start + length is at most datagram_len, whatever the bytes say; a message is answered exactly where, behind bytes 81
+             alone, one begins that is as long as it declares, at least 7, and ends inside. The walk ends; between its messages lie
+             only bytes 81, and where it is finished, behind the last one lie bytes 81 and then zeros */
 decklewren_step decklewren_step_message(const uint8_t *datagram, size_t datagram_len, size_t position);
 
 #ifdef __cplusplus

@@ -6,7 +6,8 @@ use crate::harness::report::{Given, Test};
 use crate::second::words::Refusal;
 use std::fmt::Display;
 
-/// Document 01, "Numbers a caller gets back": the words of the refusals 1 to 10.
+/// Document 01, "Numbers a caller gets back": the words of the refusals 1 to 10, the last as document
+/// 02's K1 has it.
 const WORDS: [&str; 10] = [
     "link not offered; number above 63 for a link word; slot burst not of link 5, 6, 7",
     "datagram longer than the link holds; link word, block or slot burst of the wrong length",
@@ -17,7 +18,7 @@ const WORDS: [&str; 10] = [
     "no valid block's image within one",
     "position past the end",
     "fewer than 3 bytes left, length below 7, or message past the end",
-    "fill holds another byte",
+    "a byte other than 0 after a 0",
 ];
 
 /// A run that ends well, with these bytes and this line of counts.
