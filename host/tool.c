@@ -14,7 +14,7 @@ static const char help[] =
     "  read LINK [-x]          reads the image of a block and prints the datagram\n"
     "  write-slot LINK [-x]    writes the slot burst of a datagram\n"
     "  read-slot [-x]          reads a slot burst and prints the datagram\n"
-    "  step [POSITION] [-x]    prints start and length of each message of a datagram, or of the one at a position\n"
+    "  step [POSITION] [-x]    prints start and length of each message of a datagram, or of the next from a position on\n"
     "  damage N [--seed S]     inverts N different bits; the same ones each time for one seed (1 if none is given)\n"
     "  help                    prints this, as --help and -h do; --version prints the version\n"
     "\n"

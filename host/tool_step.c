@@ -1,9 +1,9 @@
-/* decklewren step [POSITION]: the messages of a datagram (document 01, "Messages in a datagram"), each as a line of start and
-   length: all of them in turn, or the one at a position. */
+/* decklewren step [POSITION]: the messages of a datagram (document 01, "Messages in a datagram"; document 02, K1), each as a line
+   of start and length: all of them in turn, or the next from a position on. */
 #include "tool.h"
 #include <stdio.h>
 
-/* The byte that fills a datagram behind its messages; 0 does too (document 01). */
+/* The byte that a step passes over (document 02, K1). */
 enum { FILL = 81 };
 
 /* The least length of a message. */
@@ -13,21 +13,24 @@ static void put_message(decklewren_step step) {
     printf("%llu %llu\n", (unsigned long long)step.start, (unsigned long long)step.length);
 }
 
-/* What a step that was refused found at its position. */
+/* What a step that was refused found, and where: behind the bytes that it passed over stands the message that is broken, or the 0
+   behind which another byte stands. */
 static int refuse_step(uint32_t status, const input *datagram, size_t position) {
     if (status == DECKLEWREN_PAST_END) {
         return refuse_at(status, position, "the datagram has %zu bytes", datagram->count);
     }
-    const uint8_t *at = datagram->bytes + position;
-    size_t left = datagram->count - position, place = 0;
+    const uint8_t *bytes = datagram->bytes;
+    while (bytes[position] == FILL) position++;
     if (status == DECKLEWREN_BROKEN_FILL) {
-        while (at[place] == 0 || at[place] == FILL) place++;
-        return refuse_at(status, position, "the byte at %zu is %u", position + place, at[place]);
+        size_t place = position;
+        while (bytes[place] == 0) place++;
+        return refuse_at(status, position, "the byte at %zu is %u", place, bytes[place]);
     }
+    size_t left = datagram->count - position;
     if (left < 3) {
         return refuse_at(status, position, "%zu of 3 bytes left", left);
     }
-    unsigned declared = at[1] * 256u + at[2];
+    unsigned declared = bytes[position + 1] * 256u + bytes[position + 2];
     if (declared < LEAST) {
         return refuse_at(status, position, "the message declares %u bytes, at least %u are needed", declared, LEAST);
     }
