@@ -15,7 +15,7 @@ static unsigned show_messages(const uint8_t *datagram, size_t datagram_len) {
 }
 
 int main(void) {
-    const uint8_t two[17] = {74, 0, 7, 0, 0, 0, 1, 75, 0, 8, 0, 0, 0, 2, 9, 81, 81};
+    const uint8_t two[20] = {74, 0, 7, 0, 0, 0, 1, 81, 75, 0, 8, 0, 0, 0, 2, 9, 81, 81, 0, 0};
     const uint8_t lie[32] = {74, 900 / 256, 900 % 256, 0, 0, 0, 1};
     printf("ends with %u\n", show_messages(two, sizeof two));
     printf("ends with %u\n", show_messages(lie, sizeof lie));
