@@ -100,6 +100,23 @@ static void measure_slot(uint32_t link, size_t held, size_t burst) {
     measure_reading(READ_SLOT, link, burst - decklewren_image(link), burst);
 }
 
+/* Steps over fill, to each thing that may stand behind it: the end, a message, the zero fill, one that is spoilt, a message past the
+   end, and too few bytes for one. The step goes through fill in turns: runs of every length up to LONGEST_RUN end in each of them. */
+static void measure_steps(void) {
+    enum { LONGEST_RUN = 256 };
+    static const struct {
+        size_t length;
+        uint8_t bytes[7];
+    } endings[] = {{0, {0}}, {7, {74, 0, 7, 0, 0, 0, 1}}, {1, {0}}, {2, {0, 81}}, {7, {74, 3, 132, 0, 0, 0, 1}}, {2, {74, 0}}};
+    for (size_t run = 0; run <= LONGEST_RUN; run++) {
+        memset(datagram, 81, run);
+        for (size_t n = 0; n < sizeof endings / sizeof *endings; n++) {
+            memcpy(datagram + run, endings[n].bytes, endings[n].length);
+            measure(STEP_MESSAGE, 0, run + endings[n].length, 0);
+        }
+    }
+}
+
 int main(void) {
     int above = 0;
     measure_words();
@@ -108,6 +125,7 @@ int main(void) {
 #define SLOT(link, burst) measure_slot(link, DECKLEWREN_HELD_##link, burst);
     DECKLEWREN_SLOT_LINKS(SLOT)
     for (uint32_t position = 0; position < 10; position++) measure(STEP_MESSAGE, position, 8, 0);
+    measure_steps();
     for (unsigned call = 0; call < CALLS; call++) {
         printf("%-12s %6zu bytes, the header says %zu\n", names[call], most[call], told[call]);
         above |= most[call] == 0 || most[call] > told[call];

@@ -123,7 +123,7 @@ enum {
     DECKLEWREN_STACK_READ_BLOCK = 26624,
     DECKLEWREN_STACK_WRITE_SLOT = 13312,
     DECKLEWREN_STACK_READ_SLOT = 26624,
-    DECKLEWREN_STACK_STEP_MESSAGE = 128
+    DECKLEWREN_STACK_STEP_MESSAGE = 1536
 };
 
 /* A status in words, for a log or a screen; document 01 gives no number above 10. */
