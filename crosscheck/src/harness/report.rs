@@ -3,10 +3,14 @@
 
 use crate::harness::random::Random;
 use std::any::Any;
+use std::collections::BTreeMap;
 use std::fmt::Debug;
 use std::panic::{self, AssertUnwindSafe};
 use std::path::PathBuf;
 use std::process::{Command, ExitCode, Output, Stdio};
+use std::sync::atomic::{AtomicUsize, Ordering};
+use std::sync::mpsc::{self, Receiver, Sender};
+use std::thread::{self, available_parallelism};
 
 const FAILURES_SHOWN: usize = 5;
 
@@ -104,31 +108,76 @@ impl Test {
     }
 }
 
-/// Runs the tests one by one and prints the two totals.
+/// What a test's own process reported, and whether it passed.
+struct Report {
+    text: String,
+    passed: bool,
+}
+
+/// Runs the tests, as many at a time as there are processors, prints their reports in order and then
+/// the two totals.
 pub fn run_all(tests: &[NamedTest], given: &Given) -> ExitCode {
-    let passed = tests.iter().filter(|(name, _)| passes(name, given)).count();
+    let (next, at_once) = (AtomicUsize::new(0), available_parallelism());
+    let (sender, reports) = mpsc::channel();
+    let passed = thread::scope(|scope| {
+        for _ in 0..at_once.map_or(1, usize::from) {
+            let (next, sender) = (&next, sender.clone());
+            scope.spawn(move || run_next(tests, given, next, sender));
+        }
+        drop(sender);
+        print_in_order(reports)
+    });
     let failed = tests.len() - passed;
     println!("{passed} passed, {failed} failed");
     exit_code(failed == 0 && passed > 0)
 }
 
-/// Whether the test ends well and with its `ok` line. If it ends without a report, it is run once
+/// Takes the next test that nobody has taken, until there is none.
+fn run_next(
+    tests: &[NamedTest],
+    given: &Given,
+    next: &AtomicUsize,
+    sender: Sender<(usize, Report)>,
+) {
+    loop {
+        let place = next.fetch_add(1, Ordering::Relaxed);
+        let Some((name, _)) = tests.get(place) else {
+            return;
+        };
+        let sent = sender.send((place, report_of(name, given)));
+        sent.expect("the reports are read to their end");
+    }
+}
+
+/// Prints each report once those of all tests before it are printed; answers how many passed.
+fn print_in_order(reports: Receiver<(usize, Report)>) -> usize {
+    let (mut waiting, mut printed, mut passed) = (BTreeMap::new(), 0, 0);
+    for (place, report) in reports {
+        waiting.insert(place, report);
+        while let Some(report) = waiting.remove(&printed) {
+            print!("{}", report.text);
+            printed += 1;
+            passed += usize::from(report.passed);
+        }
+    }
+    passed
+}
+
+/// A test passes if it ends well and with its `ok` line. If it ends without a report, it is run once
 /// more, traced, to name the call that ended it.
-fn passes(name: &str, given: &Given) -> bool {
+fn report_of(name: &str, given: &Given) -> Report {
     let ran = in_own_process(&[name], given);
-    let text = String::from_utf8_lossy(&ran.stdout);
-    print!("{text}");
+    let mut text = String::from_utf8_lossy(&ran.stdout).into_owned();
     let last = text.lines().last().unwrap_or("");
-    if ran.status.success() && last.starts_with(&format!("ok   {name} (")) {
-        return true;
-    }
-    if !last.starts_with(&format!("FAIL {name}: ")) {
+    let passed = ran.status.success() && last.starts_with(&format!("ok   {name} ("));
+    if !passed && !last.starts_with(&format!("FAIL {name}: ")) {
         let traced = in_own_process(&[name, TRACED], given);
-        let text = String::from_utf8_lossy(&traced.stdout);
-        println!("{}", text.lines().last().unwrap_or(""));
-        println!("FAIL {name}: this call ended the process, {}", ran.status);
+        let traced = String::from_utf8_lossy(&traced.stdout);
+        text += traced.lines().last().unwrap_or("");
+        let status = ran.status;
+        text += &format!("\nFAIL {name}: this call ended the process, {status}\n");
     }
-    false
+    Report { text, passed }
 }
 
 fn in_own_process(arguments: &[&str], given: &Given) -> Output {
