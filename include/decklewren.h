@@ -39,10 +39,10 @@ extern "C" {
 /* The version, here and nowhere else. MAJOR rises where a program must change or be compiled again (a call, a struct or a name that
    was there has changed or is gone), MINOR where something is new or a call answers otherwise, PATCH with every other change. */
 #define DECKLEWREN_VERSION_MAJOR 0
-#define DECKLEWREN_VERSION_MINOR 2
+#define DECKLEWREN_VERSION_MINOR 3
 #define DECKLEWREN_VERSION_PATCH 0
 
-/* The same as text: "0.2.0" is a literal, made of the three numbers. */
+/* The same as text: "0.3.0" is a literal, made of the three numbers. */
 #define DECKLEWREN_TEXT_OF(major, minor, patch) #major "." #minor "." #patch
 #define DECKLEWREN_TEXT(major, minor, patch) DECKLEWREN_TEXT_OF(major, minor, patch)
 #define DECKLEWREN_VERSION DECKLEWREN_TEXT(DECKLEWREN_VERSION_MAJOR, DECKLEWREN_VERSION_MINOR, DECKLEWREN_VERSION_PATCH)
