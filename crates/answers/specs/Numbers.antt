@@ -40,6 +40,6 @@ pastEnd = 8
 abbrev pub brokenMessage : ℕ
 brokenMessage = 9
 
--- fill holds another byte
+-- a byte other than 0 after a 0 (document 02, K1)
 abbrev pub brokenFill : ℕ
 brokenFill = 10
