@@ -265,8 +265,8 @@ decklewren_slot decklewren_read_slot(const uint8_t *bits, size_t bits_len, uint8
    which a step passes over, and may stand before, between and behind the messages. A byte 0 in the place of a type begins the zero
    fill, which goes on to the end. To walk a datagram, step from 0, each next time from start + length, until length is 0: the
    status then says whether it is finished or which refusal ended it.
-   Returns:  status with the message's start and total length, or with both 0 where no more follow ("finished"); start lies behind
-             the position where bytes 81 were passed over
+   Returns:  status with the message's start and total length, or with both 0 where no more follow ("finished"); where bytes 81
+             were passed over, start lies behind the position
    In:       datagram, and any position
    Out:      nothing
    Refusals: 8 position past the end; then, behind the bytes 81 passed over, 9 fewer than 3 bytes left, length below 7, or message

@@ -1,4 +1,4 @@
--- The cases of document 01 hold: antt computes the words and the places where they differ, and reading is exact.
+-- The cases of the documents hold: antt computes the words and the places where they differ, and reading is exact.
 -- Assumes nothing.
 use mathlib.Core.Path.{_≡_, refl, ap}
 use mathlib.Core.Bool.{Bool, true}

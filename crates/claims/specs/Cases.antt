@@ -1,4 +1,4 @@
--- The cases of document 01, "Cases on either side", as a single list under one claim, of the definitions that the contracts cite.
+-- The cases of document 01, "Cases on either side", and of document 02's requests, as a single list under one claim, of the definitions that the contracts cite.
 use mathlib.Core.Path.{_≡_}
 use mathlib.Core.Bool.{Bool, true, false, not}
 use mathlib.Core.List.{List, [], _∷_, _++_, map}

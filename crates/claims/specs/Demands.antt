@@ -27,7 +27,7 @@ use Rattle.slots.specs.declared.Slot.{Slot}
 use Rattle.slots.specs.Burst.{trainingPart, wordPart, blockPart, isSlotLink, burstLength, burstOf}
 use Rattle.slots.specs.Near.{Near as NearBurst}
 use Rattle.messages.specs.declared.Step.{Step}
-use Rattle.messages.specs.Places.{byteAt, PassedOver, Behind, FillLeft, Spoilt, Begins, Whole}
+use Rattle.messages.specs.Places.{byteAt, PassedOver, Behind, NoneLeft, Spoilt, Begins, Whole}
 use Rattle.messages.specs.Step.{finished, message, refused as stepRefused}
 use Rattle.messages.specs.Tiling.{Tiles, Tiled, bytesOf}
 use Rattle.messages.specs.Walk.{Walks, walk}
@@ -133,7 +133,7 @@ pub record Demand2 : Type 0 where
   pub message-found : (datagram : List ℕ) (position : ℕ) (answer : Step) → Stepped datagram position answer → (start total : ℕ)
       → ((answer ≡ message start total) × (0 < total)) ↔ (PassedOver datagram position start × Whole datagram start total)
   -- "finished": exactly where 81s and then zeros alone are left
-  pub step-finished : (datagram : List ℕ) (position : ℕ) (answer : Step) → Stepped datagram position answer → (answer ≡ finished) ↔ FillLeft datagram position
+  pub step-finished : (datagram : List ℕ) (position : ℕ) (answer : Step) → Stepped datagram position answer → (answer ≡ finished) ↔ NoneLeft datagram position
   -- 10: exactly where, behind 81s alone, a 0 stands, and behind it a byte other than 0
   pub step-spoilt : (datagram : List ℕ) (position : ℕ) (answer : Step) → Stepped datagram position answer
       → (answer ≡ stepRefused brokenFill) ↔ Behind datagram position (Spoilt datagram)
@@ -149,7 +149,7 @@ pub record Demand2 : Type 0 where
   pub walk-tiles : (datagram : List ℕ) (found : List Step) (last : Step) → Walks datagram 0 found last → Tiled datagram 0 found last
   pub walk-count : (datagram : List ℕ) (found : List Step) (last : Step) → Walks datagram 0 found last → 7 * length found ≤ length datagram
   -- if it ends in "finished", behind the last message are 81s and then zeros
-  pub walk-fill : (datagram : List ℕ) (found : List Step) → Walks datagram 0 found finished → (end : ℕ) × Tiles datagram 0 found end × FillLeft datagram end
+  pub walk-fill : (datagram : List ℕ) (found : List Step) → Walks datagram 0 found finished → (end : ℕ) × Tiles datagram 0 found end × NoneLeft datagram end
   -- the messages, the 81s before and between them and what is left behind are the datagram
   pub walk-bytes : (datagram : List ℕ) (found : List Step) (end : ℕ) → Tiles datagram 0 found end → bytesOf datagram 0 found ++ drop end datagram ≡ datagram
 

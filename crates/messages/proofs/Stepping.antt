@@ -13,7 +13,7 @@ use borrow.Author.Tests.{ltb-true, ltb-false}
 use Rattle.answers.specs.Numbers.{pastEnd, brokenMessage, brokenFill}
 use Rattle.messages.specs.declared.Step.{Step}
 use Rattle.messages.specs.Fill.{onlyZeros}
-use Rattle.messages.specs.Places.{byteAt, PassedOver, Behind, ZerosFrom, FillLeft, Spoilt, Begins, totalAt, Broken, too-few, too-small, too-long, BrokenAt, Whole}
+use Rattle.messages.specs.Places.{byteAt, PassedOver, Behind, ZerosFrom, NoneLeft, Spoilt, Begins, totalAt, Broken, too-few, too-small, too-long, BrokenAt, Whole}
 use Rattle.messages.specs.Step.{refused, finished, message, messageAt, stepFrom, stepMessage}
 use Rattle.messages.specs.working.Stepping.{Stepping, past, ends, spoils, breaks, finds}
 use Rattle.messages.proofs.Places.{passed-ends, left-declares, only-from, from-only, spoilt-at, spoilt-only}
@@ -65,7 +65,7 @@ module _ (datagram : List ℕ) where
 
 module _ (datagram : List ℕ) (position : ℕ) where
   -- ---- what each way answers
-  ends-answers : FillLeft datagram position → stepMessage datagram position ≡ finished
+  ends-answers : NoneLeft datagram position → stepMessage datagram position ≡ finished
   ends-answers (place, p, zeros) = from-place datagram position place p ∙ zeros-answer datagram place zeros
 
   spoils-answers : Behind datagram position (Spoilt datagram) → stepMessage datagram position ≡ refused brokenFill
@@ -96,7 +96,7 @@ module _ (datagram : List ℕ) (position : ℕ) where
           finds place total p whole (finds-answers place total p whole)
 
   left : (place : ℕ) → PassedOver datagram position place → ZerosFrom datagram place → Stepping datagram position
-  left place p z = let behind : FillLeft datagram position = (place, p, z) in ends behind (ends-answers behind)
+  left place p z = let behind : NoneLeft datagram position = (place, p, z) in ends behind (ends-answers behind)
 
   filled : (place : ℕ) → PassedOver datagram position place → byteAt datagram place ≡ 0 → Stepping datagram position
   filled place p z = decided (onlyZeros (drop place datagram)) refl
@@ -160,10 +160,10 @@ module _ (datagram : List ℕ) (position : ℕ) where
       goes (breaks h q) e = no-status e q (omega arith)
       goes (finds start total p w q) e = no-status e q (omega arith)
 
-  pub finished-exact : (stepMessage datagram position ≡ finished) ↔ FillLeft datagram position
+  pub finished-exact : (stepMessage datagram position ≡ finished) ↔ NoneLeft datagram position
   finished-exact = (λ e. goes step-goes e, ends-answers)
     where
-      goes : Stepping datagram position → stepMessage datagram position ≡ finished → FillLeft datagram position
+      goes : Stepping datagram position → stepMessage datagram position ≡ finished → NoneLeft datagram position
       goes (past h q) e = no-status e q (omega arith)
       goes (ends h q) e = h
       goes (spoils h q) e = no-status e q (omega arith)

@@ -11,10 +11,10 @@ use borrow.Author.Tests.{eq-eqb, eqb-true}
 use Rattle.lists.proofs.Every.{each-every, every-only}
 use Rattle.messages.specs.declared.Step.{Step}
 use Rattle.messages.specs.Fill.{isFill}
-use Rattle.messages.specs.Places.{PassedOver, FillLeft}
+use Rattle.messages.specs.Places.{PassedOver, NoneLeft}
 use Rattle.messages.specs.Step.{finished, message, stepMessage}
 use Rattle.messages.specs.working.Stepping.{Stepping, past, ends, spoils, breaks, finds}
-use Rattle.messages.specs.Tiling.{Tiles, none, next, Stops, at-fill, at-spoilt, at-broken, Tiled, bytesOf}
+use Rattle.messages.specs.Tiling.{Tiles, none, next, Stops, at-end, at-spoilt, at-broken, Tiled, bytesOf}
 use Rattle.messages.specs.Walk.{Walks, stops, goes}
 use Rattle.messages.proofs.Stepping.{step-goes, answer-inside}
 use Rattle.messages.proofs.Ways.{same-status, same-length}
@@ -27,7 +27,7 @@ module _ (datagram : List ℕ) where
     where
       go : Stepping datagram position → Stops datagram position (stepMessage datagram position)
       go (past l q) = absurd (omega arith)
-      go (ends f q) = at-fill f q
+      go (ends f q) = at-end f q
       go (spoils s q) = at-spoilt s q
       go (breaks b q) = at-broken b q
       go (finds start total p w q) = absurd (omega (arith, same-length q, w .least))
@@ -49,13 +49,13 @@ module _ (datagram : List ℕ) where
   walks-tile {position} h (stops a z) = record { end = position; inside = h; tiles = none; rest = rw a (rest-at position h (rw a at z)) }
   walks-tile {position} h (goes a l w) = one-more a l (walks-tile (rw a (answer-inside datagram position)) w)
 
-  -- ---- where stepping ends in "finished", nothing but fill is left behind the last message
+  -- ---- where stepping ends in "finished", no message is left behind the last one
   pub walks-fill : {position : ℕ} {found : List Step} → position ≤ length datagram → Walks datagram position found finished
-      → (end : ℕ) × Tiles datagram position found end × FillLeft datagram end
+      → (end : ℕ) × Tiles datagram position found end × NoneLeft datagram end
   walks-fill {position} {found} h w = let t = walks-tile h w in go t (t .rest)
     where
-      go : (t : Tiled datagram position found finished) → Stops datagram (t .end) finished → (end : ℕ) × Tiles datagram position found end × FillLeft datagram end
-      go t (at-fill f q) = (t .end, t .tiles, f)
+      go : (t : Tiled datagram position found finished) → Stops datagram (t .end) finished → (end : ℕ) × Tiles datagram position found end × NoneLeft datagram end
+      go t (at-end f q) = (t .end, t .tiles, f)
       go t (at-spoilt s q) = absurd (omega (arith, same-status q))
       go t (at-broken b q) = absurd (omega (arith, same-status q))
 

@@ -22,11 +22,11 @@ Behind datagram position Stands = (place : ℕ) × PassedOver datagram position 
 abbrev pub ZerosFrom : List ℕ → ℕ → Type 0
 ZerosFrom datagram place = (n : ℕ) → place ≤ n → n < length datagram → byteAt datagram n ≡ 0
 
--- nothing but fill is left: 81s and then zeros
-abbrev pub FillLeft : List ℕ → ℕ → Type 0
-FillLeft datagram position = Behind datagram position (ZerosFrom datagram)
+-- no message is left: 81s alone, and then zeros alone
+abbrev pub NoneLeft : List ℕ → ℕ → Type 0
+NoneLeft datagram position = Behind datagram position (ZerosFrom datagram)
 
--- the zero fill begins at a place, and behind it comes another byte
+-- the zero fill begins at a place, and behind it comes a byte other than 0
 pub record Spoilt (datagram : List ℕ) (place : ℕ) : Type 0 where
   pub zero : byteAt datagram place ≡ 0
   pub other : ℕ
@@ -34,29 +34,29 @@ pub record Spoilt (datagram : List ℕ) (place : ℕ) : Type 0 where
   pub inside : other < length datagram
   pub differs : byteAt datagram other ≡ 0 → ⊥
 
--- a message begins at a position
-pub record Begins (datagram : List ℕ) (position : ℕ) : Type 0 where
-  pub inside : position < length datagram
-  pub no-fill : byteAt datagram position ≡ 81 → ⊥
-  pub no-zero : byteAt datagram position ≡ 0 → ⊥
+-- a message begins at a place
+pub record Begins (datagram : List ℕ) (place : ℕ) : Type 0 where
+  pub inside : place < length datagram
+  pub no-fill : byteAt datagram place ≡ 81 → ⊥
+  pub no-zero : byteAt datagram place ≡ 0 → ⊥
 
 -- the total length that it declares: the two bytes after its type, high byte first
 abbrev pub totalAt : List ℕ → ℕ → ℕ
-totalAt datagram position = byteAt datagram (position + 1) * 256 + byteAt datagram (position + 2)
+totalAt datagram place = byteAt datagram (place + 1) * 256 + byteAt datagram (place + 2)
 
 -- fewer than 3 bytes left, length below 7, or message past the end
-pub data Broken (datagram : List ℕ) (position : ℕ) : Type 0 where
-  too-few : length datagram < position + 3 → Broken datagram position
-  too-small : totalAt datagram position < 7 → Broken datagram position
-  too-long : length datagram < position + totalAt datagram position → Broken datagram position
+pub data Broken (datagram : List ℕ) (place : ℕ) : Type 0 where
+  too-few : length datagram < place + 3 → Broken datagram place
+  too-small : totalAt datagram place < 7 → Broken datagram place
+  too-long : length datagram < place + totalAt datagram place → Broken datagram place
 
 -- a message begins that is so broken
 abbrev pub BrokenAt : List ℕ → ℕ → Type 0
-BrokenAt datagram position = Begins datagram position × Broken datagram position
+BrokenAt datagram place = Begins datagram place × Broken datagram place
 
--- a message of a total length starts at a position: it is as long as it declares, at least 7, and ends inside the datagram
-pub record Whole (datagram : List ℕ) (position total : ℕ) : Type 0 where
-  pub begins : Begins datagram position
-  pub declares : total ≡ totalAt datagram position
+-- a message of a total length starts at a place: it is as long as it declares, at least 7, and ends inside the datagram
+pub record Whole (datagram : List ℕ) (place total : ℕ) : Type 0 where
+  pub begins : Begins datagram place
+  pub declares : total ≡ totalAt datagram place
   pub least : 7 ≤ total
-  pub ends : position + total ≤ length datagram
+  pub ends : place + total ≤ length datagram

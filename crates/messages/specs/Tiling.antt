@@ -5,7 +5,7 @@ use Prim.Native.Nat.{ℕ, _+_, _-_, _≤_}
 use lib.ListN.{length, take, drop, replicate}
 use Rattle.answers.specs.Numbers.{brokenMessage, brokenFill}
 use Rattle.messages.specs.declared.Step.{Step}
-use Rattle.messages.specs.Places.{PassedOver, Behind, FillLeft, Spoilt, BrokenAt, Whole}
+use Rattle.messages.specs.Places.{PassedOver, Behind, NoneLeft, Spoilt, BrokenAt, Whole}
 use Rattle.messages.specs.Step.{refused, finished, message}
 
 -- whole messages, with nothing but 81s before and between them, from one position to another
@@ -16,7 +16,7 @@ pub data Tiles (datagram : List ℕ) : ℕ → List Step → ℕ → Type 0 wher
 
 -- what stands behind the position where stepping ended, and the answer there
 pub data Stops (datagram : List ℕ) (position : ℕ) (last : Step) : Type 0 where
-  at-fill : FillLeft datagram position → last ≡ finished → Stops datagram position last
+  at-end : NoneLeft datagram position → last ≡ finished → Stops datagram position last
   at-spoilt : Behind datagram position (Spoilt datagram) → last ≡ refused brokenFill → Stops datagram position last
   at-broken : Behind datagram position (BrokenAt datagram) → last ≡ refused brokenMessage → Stops datagram position last
 

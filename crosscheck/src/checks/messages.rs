@@ -159,7 +159,7 @@ fn all_datagrams(length: u32, bytes: &[u8]) -> impl Iterator<Item = Vec<u8>> + '
     })
 }
 
-/// Up to nine bytes, which two 81s and a message of 7 take, from all positions but the far ones.
+/// Up to nine bytes, which two 81s and a message of 7 take, from 0 to one past the end.
 fn archive_steps_in_all_datagrams_of_0_1_7_81(given: &Given, test: &mut Test) {
     let second = Second::read(&given.tables);
     let mut caller = Caller::new(test);

@@ -30,12 +30,12 @@ impl Sent {
     }
 }
 
-/// How many 81s stand together: mostly none or one, now and then more than 64 or more than 200.
+/// How many 81s stand together: mostly none or one, now and then up to 40, about 100 or about 250.
 fn run_of_fill(random: &mut Random) -> usize {
     match random.below(16) {
         0..=5 => 0,
         6..=11 => 1,
-        12 | 13 => 2 + random.below(7),
+        12 | 13 => 2 + random.below(39),
         14 => 60 + random.below(80),
         _ => 190 + random.below(120),
     }

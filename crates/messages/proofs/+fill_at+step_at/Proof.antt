@@ -73,9 +73,9 @@ pub +fill-at+step-at-spec : {M : Type 1} → statement M
     (λ c. let a = c .before .before .before .before .before .before .before .args in
     c .zeros-at .ensures
     ∙ ap zerosAt (part-rest (a .place) (a .datagram .now))
-    ∙ sym (step-zeros (a .datagram .now) (a .place) (search needs) (c .before .if3 .taken)))
+    ∙ sym (step-zeros (a .datagram .now) (a .place) (search needs) (omega arith)))
     (λ c κs. search needs)
     (λ c. let a = c .before .before .before .before .before .before .before .args in
     c .message-at .ensures
     ∙ ap (messageAt (a .place)) (part-rest (a .place) (a .datagram .now))
-    ∙ sym (step-begins (a .datagram .now) (a .place) (search needs) (c .before .before .before .if2 .left) (c .before .if3 .left)))
+    ∙ sym (step-begins (a .datagram .now) (a .place) (search needs) (omega arith) (omega arith)))

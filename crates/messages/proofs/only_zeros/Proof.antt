@@ -28,7 +28,8 @@ returns c =
 loop-again : tie.Need-loop-again Inv-loop μ-loop
 loop-again c =
     let at = c .before .before .before .loop in
-    (search needs, search needs, at .inv .2 ∙ every-passes isZero 0 _ (at .i) (search needs) (eq-eqb _ _ (c .if1 .left)))
+    let bytes = c .before .before .before .before .args .bytes .now in
+    (search needs, search needs, at .inv .2 ∙ every-passes isZero 0 bytes (at .i) (search needs) (eq-eqb (getD bytes (at .i) 0) 0 (omega arith)))
 
 returns-2 : tie.Need-returns-2 Inv-loop μ-loop
 returns-2 c = sym (c .before .loop .inv .2 ∙ every-done _ _ (c .before .loop .i) (search needs))

@@ -5,12 +5,12 @@ use mathlib.Core.List.{List}
 use Prim.Native.Nat.{ℕ, _<_}
 use lib.ListN.{length}
 use Rattle.answers.specs.Numbers.{pastEnd, brokenMessage, brokenFill}
-use Rattle.messages.specs.Places.{PassedOver, Behind, FillLeft, Spoilt, BrokenAt, Whole}
+use Rattle.messages.specs.Places.{PassedOver, Behind, NoneLeft, Spoilt, BrokenAt, Whole}
 use Rattle.messages.specs.Step.{refused, finished, message, stepMessage}
 
 pub data Stepping (datagram : List ℕ) (position : ℕ) : Type 0 where
   past : length datagram < position → stepMessage datagram position ≡ refused pastEnd → Stepping datagram position
-  ends : FillLeft datagram position → stepMessage datagram position ≡ finished → Stepping datagram position
+  ends : NoneLeft datagram position → stepMessage datagram position ≡ finished → Stepping datagram position
   spoils : Behind datagram position (Spoilt datagram) → stepMessage datagram position ≡ refused brokenFill → Stepping datagram position
   breaks : Behind datagram position (BrokenAt datagram) → stepMessage datagram position ≡ refused brokenMessage → Stepping datagram position
   finds : (start total : ℕ) → PassedOver datagram position start → Whole datagram start total → stepMessage datagram position ≡ message start total → Stepping datagram position
