@@ -1,5 +1,5 @@
-// Bits one to a byte (document 01, "What the module does"): the test that a byte is a bit, bits as a number and back, and the number of
-// places where two words or two rows differ.
+// Bits one to a byte (document 01, "What the module does"): the test that a byte is a bit, bits as a number and back, what is laid
+// over a buffer, and the number of places where two words or two rows differ.
 ghost use mathlib.Core.Path.{_≡_};
 ghost use mathlib.Core.List.{map};
 ghost use mathlib.Core.Bool.{true};
@@ -7,7 +7,7 @@ ghost use Prim.Native.Nat.{_+_, _*_, _≤_, min};
 ghost use lib.Bits.{bitXor};
 ghost use lib.Count.{ones};
 ghost use lib.ListN.{length, take, drop};
-ghost use Rattle.lists.specs.Over.{over};
+ghost use Rattle.lists.specs.Over.{over, Room};
 ghost use Rattle.bits.specs.Bits.{allBits, byte, isOne};
 ghost use Rattle.bits.specs.Row.{highFirst, number, differences};
 
@@ -58,6 +58,16 @@ pub fn lay_row(word: u32, out: &mut [u8], at: usize)
     ensures { λ _. ⌜ now (out .exit) ≡ over at (map byte (highFirst 32 word)) (now (out .entry)) ⌝ }
 {
     lay_bits(word, 32, out, at);
+}
+
+// Lays bytes, bits or not, over a buffer from a place on.
+pub fn lay_bytes(bytes: &[u8], out: &mut [u8], at: usize)
+    requires { ⌜ Room at (now bytes) (now out) ⌝ }
+    ensures { λ _. ⌜ now (out .exit) ≡ over at (now (bytes .entry)) (now (out .entry)) ⌝ }
+{
+    for i in 0..bytes.len() {
+        out[at + i] = bytes[i];
+    }
 }
 
 // Byte j of a row of bits, the first of its eight the highest.

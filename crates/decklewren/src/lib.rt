@@ -9,6 +9,8 @@ ghost use lib.ListN.{length};
 ghost use Rattle.answers.specs.Outcome.{Wrote};
 ghost use Rattle.messages.specs.Step.{stepMessage};
 ghost use Rattle.blocks.specs.Calls.{writeBlock, readBlock};
+ghost use Rattle.parts.specs.State.{state, taken};
+ghost use Rattle.parts.specs.Asking.{Asked};
 ghost use Rattle.slots.specs.Calls.{writeSlot, readSlot};
 ghost use Rattle.words.specs.Calls.{writeWord, readWord};
 
@@ -59,4 +61,18 @@ pub extern "C" fn decklewren_read_slot(burst: &[u8], out: &mut [u8]) -> Slot
     ensures { λ r. ⌜ Wrote (readSlot (now (burst .entry)) (length (now (out .entry)))) (now (out .entry)) (now (out .exit)) r ⌝ }
 {
     slots::read(burst, out)
+}
+
+#[no_mangle]
+pub extern "C" fn decklewren_take_part(count: &mut u32, bits: &mut [u8; 1504], part: &[u8])
+    ensures { λ _. ⌜ state (now (count .exit)) (now (bits .exit)) ≡ taken (state (now (count .entry)) (now (bits .entry))) (now (part .entry)) ⌝ }
+{
+    parts::take(count, bits, part);
+}
+
+#[no_mangle]
+pub extern "C" fn decklewren_read_parts(count: &mut u32, bits: &mut [u8; 1504], out: &mut [u8]) -> Slot
+    ensures { λ r. ⌜ Asked (state (now (count .entry)) (now (bits .entry))) (state (now (count .exit)) (now (bits .exit))) (now (out .entry)) (now (out .exit)) r ⌝ }
+{
+    parts::read(count, bits, out)
 }

@@ -14,16 +14,6 @@ ghost use Rattle.turbo.specs.working.Parity.{countsOf};
 ghost use Rattle.blocks.specs.Reading.{received};
 ghost use Rattle.blocks.specs.working.Came.{Came};
 
-// Copies bytes.
-fn copy(from: &[u8], to: &mut [u8])
-    requires { ⌜ length (now to) ≡ length (now from) ⌝ }
-    ensures { λ _. ⌜ now (to .exit) ≡ now (from .entry) ⌝ }
-{
-    for i in 0..from.len() {
-        to[i] = from[i];
-    }
-}
-
 // How many bits the flags of a clock pass on.
 fn total(flags: [u8; 6]) -> usize
     ensures { λ r. ⌜ r ≡ total flags ⌝ }
@@ -71,7 +61,7 @@ pub fn receive(row: Row, came: &[u8], plain: &mut [u8], u: &mut [u8])
     requires { ⌜ Came row (now came) × (length (now u) ≡ row .k) × (length (now plain) ≡ imageLength row) ⌝ }
     ensures { λ _. ⌜ now (u .exit) ≡ map byte (received row (map isOne (now (came .entry)))) ⌝ }
 {
-    copy(came, plain);
+    bits::lay_bytes(came, plain, 0);
     scrambler::scramble(scrambler::load(), came.len(), plain);
     take_x(row, plain, u);
 }

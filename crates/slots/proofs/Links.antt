@@ -22,7 +22,7 @@ module _ (p : ℕ → Bool) (five : p 5 ≡ true) (six : p 6 ≡ true) (seven : 
   one-of false false true e f g h = rw (eqb-true link 7 g) seven
   one-of false false false e f g h = absurd (true≢false (sym h))
 
-  each : isSlotLink link ≡ true → p link ≡ true
+  pub each : isSlotLink link ≡ true → p link ≡ true
   unfolding isSlotLink
   each h = one-of (eqb link 5) (eqb link 6) (eqb link 7) refl refl refl h
 

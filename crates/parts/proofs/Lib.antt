@@ -1,0 +1,4 @@
+pub mod Growing
+pub mod Hearing
+pub mod Holding
+pub mod Lengths
