@@ -1,17 +1,21 @@
 -- The cases of the documents hold: antt computes the words and the places where they differ, and reading is exact.
 -- Assumes nothing.
-use mathlib.Core.Path.{_≡_, refl, ap}
-use mathlib.Core.Bool.{Bool, true}
-use mathlib.Core.List.{List, _++_, map}
-use Prim.Native.Nat.{ℕ}
+use mathlib.Core.Path.{_≡_, refl, sym, ap, _∙_}
+use mathlib.Core.Bool.{Bool, true, false}
+use mathlib.Core.List.{List, [], _∷_, _++_, map, append-nil}
+use Prim.Native.Nat.{ℕ, _<_, _≤_}
 use native.Mathlib.Omega.{arith}
 use lib.Dec.{ltb, ltb→lt, lit<, lit≤}
-use lib.ListN.{length, getD, length-map}
+use lib.ListN.{length, getD, replicate, length-map, length-append}
+use lib.Seq.{take-all, take-at}
 use Rattle.answers.specs.Numbers.{wrongLength, noWord}
 use Rattle.answers.specs.Outcome.{refusal}
 use Rattle.answers.proofs.Task.{write-long}
 use Rattle.lists.specs.Every.{every}
+use Rattle.lists.specs.Over.{over}
 use Rattle.lists.proofs.Line.{line}
+use Rattle.lists.proofs.Over.{over-all}
+use Rattle.lists.proofs.Parts.{map-take}
 use Rattle.bits.specs.Bits.{byte}
 use Rattle.bits.specs.Row.{highFirst, differences}
 use Rattle.blocks.specs.Calls.{blockTask, writeBlock}
@@ -20,11 +24,18 @@ use Rattle.links.specs.Rows.{rows, placeIn, offered, rowOf}
 use Rattle.links.specs.Sizes.{bytesHeld, imageLength}
 use Rattle.links.proofs.Table.{image-lengths}
 use Rattle.messages.specs.Step.{zerosAt, messageAt, stepAt, stepMessage}
-use Rattle.slots.specs.Burst.{headOf, blockPart, isSlotLink}
+use Rattle.slots.specs.Burst.{headLength, headPart, blockPart, isSlotLink, headOf, burstOf}
+use Rattle.slots.specs.Head.{readHead}
 use Rattle.slots.specs.Calls.{both, readSlot, refused as slot-refused}
 use Rattle.slots.proofs.Answered.{rest-joined}
+use Rattle.slots.proofs.HeadLaid.{length-head}
 use Rattle.slots.proofs.Links.{slot-offered}
 use Rattle.slots.proofs.Parts.{near-head, block-of}
+use Rattle.slots.proofs.Writing.{long-burst}
+use Rattle.parts.specs.State.{longest, stop, state, blank, fresh, taken, heard}
+use Rattle.parts.proofs.Growing.{cut}
+use Rattle.parts.proofs.Hearing.{short, heard-long}
+use Rattle.parts.proofs.Holding.{fresh-holds}
 use Rattle.turbo.proofs.Cases.{p7-y0, p7-y1, p8, p9}
 use Rattle.words.specs.Word.{generator, withRows, wordOf, wordBits}
 use Rattle.words.specs.Calls.{readWord, refused, found}
@@ -64,13 +75,58 @@ unfolding rows placeIn rowOf
 images = (ap (λ (l : List ℕ). getD l 0 0) image-lengths, ap (λ (l : List ℕ). getD l 1 0) image-lengths, ap (λ (l : List ℕ). getD l 2 0) image-lengths)
 
 -- the head of 7 is read, and what stands behind it is not as long as 7's images
-short-7 : (rest : List Bool) (room : ℕ) → length rest ≡ 394 → readSlot (map byte (headOf 7 ++ rest)) room ≡ slot-refused wrongLength
+other-7 : (rest : List Bool) (room : ℕ) → (length rest ≡ 1418 → ⊥) → readSlot (map byte (headOf 7 ++ rest)) room ≡ slot-refused wrongLength
 unfolding both isSlotLink
-short-7 rest room size =
+other-7 rest room other =
     rest-joined (headOf 7 ++ rest) 7 0 (near-head 7 rest refl) room
     (read-length 7 (map byte (blockPart (headOf 7 ++ rest))) room (slot-offered 7 refl)
-    (λ e. omega (arith, e, size, length-map (blockPart (headOf 7 ++ rest)) byte, ap length (block-of 7 rest), images .2)))
+    (λ e. other (sym (ap length (block-of 7 rest)) ∙ sym (length-map (blockPart (headOf 7 ++ rest)) byte) ∙ e ∙ images .2)))
+
+-- ---- K2
+empty : (taken fresh [] ≡ fresh) × ((room : ℕ) → readSlot (heard fresh) room ≡ slot-refused wrongLength)
+unfolding over blank taken heard readHead readSlot
+empty = (refl, λ room. refl)
+
+counts : map (λ n. taken fresh (replicate n 1) .count) (0 ∷ 1 ∷ 1503 ∷ 1504 ∷ 1505 ∷ 1600 ∷ []) ≡ 0 ∷ 1 ∷ 1503 ∷ 1504 ∷ 1505 ∷ 1505 ∷ []
+unfolding taken
+counts = refl
+
+raw : heard (taken (taken fresh (2 ∷ 255 ∷ [])) (1 ∷ [])) ≡ 2 ∷ 255 ∷ 1 ∷ []
+unfolding over blank taken heard
+raw = refl
+
+-- a burst of link 7 is as long as what is kept
+module _ (datagram : List ℕ) (fits : length datagram ≤ 128) where
+  abbrev burst : List ℕ
+  burst = map byte (burstOf 7 datagram)
+
+  long-7 : length burst ≡ longest
+  unfolding isSlotLink rows placeIn rowOf
+  long-7 = long-burst 7 refl datagram fits ∙ omega (arith, images .2)
+
+  kept : (x : ℕ) (more : List ℕ) → taken fresh (burst ++ x ∷ more) ≡ state stop burst
+  kept x more =
+      let came = burst ++ x ∷ more in
+      let size : longest < length came = omega (arith, length-append burst (x ∷ more), long-7) in
+      let laid = ap (λ (p : List ℕ). over 0 p blank) (take-at burst (x ∷ more) longest long-7) ∙ over-all burst blank (long-7 ∙ sym (fresh-holds .long)) in
+      sym (cut 0 blank came (omega arith) size) ∙ ap (λ (bits : List ℕ). state stop bits) laid
+
+  good : heard (state longest burst) ≡ burst
+  good = short longest burst (omega (arith, long-7)) ∙ take-all longest burst (omega (arith, long-7))
+
+  -- what is longer reads as the head of 7 alone
+  head-7 : headPart burst ≡ map byte (headOf 7 ++ [])
+  unfolding burstOf
+  head-7 =
+      sym (map-take byte headLength (burstOf 7 datagram))
+      ∙ ap (map byte) (take-at (headOf 7) _ headLength (sym (length-map (headOf 7) byte) ∙ length-head 7) ∙ sym (append-nil (headOf 7)))
+
+  longer : (room : ℕ) → readSlot (heard (state stop burst)) room ≡ slot-refused wrongLength
+  longer room =
+      heard-long stop burst long-7 (omega arith) room
+      ∙ ap (λ (came : List ℕ). readSlot came room) head-7
+      ∙ other-7 [] room (λ e. omega (arith, e))
 
 pub cases : Cases
 unfolding generator withRows wordOf every zerosAt messageAt stepAt stepMessage
-cases = record { P1 = refl; P2 = refl; P3 = refl; P4 = seven-wrong; P5 = eight-wrong; P6 = nine-wrong; P7 = (p7-y0, p7-y1); P8 = p8; P9 = p9; P10 = (held-by-12, too-long); P11 = (refl, refl, refl); P12 = (refl, refl, refl); K1-spoilt = (refl, refl, refl); K1-ends = (refl, refl, refl, refl); K1-passed = (refl, refl, refl); short-7 = short-7; burst-lengths = rw (images .0, images .1, images .2) }
+cases = record { P1 = refl; P2 = refl; P3 = refl; P4 = seven-wrong; P5 = eight-wrong; P6 = nine-wrong; P7 = (p7-y0, p7-y1); P8 = p8; P9 = p9; P10 = (held-by-12, too-long); P11 = (refl, refl, refl); P12 = (refl, refl, refl); K1-spoilt = (refl, refl, refl); K1-ends = (refl, refl, refl, refl); K1-passed = (refl, refl, refl); K2-empty = empty; K2-counts = counts; K2-raw = raw; K2-longer = λ datagram fits x more. (kept datagram fits x more, good datagram fits, longer datagram fits); short-7 = λ rest room size. other-7 rest room (λ e. omega (arith, size, e)); burst-lengths = rw (images .0, images .1, images .2) }

@@ -22,6 +22,7 @@ use Rattle.blocks.proofs.Exact as exact
 use Rattle.blocks.proofs.WaysOfReading as rb
 use Rattle.slots.specs.Calls.{slotTask}
 use Rattle.slots.proofs.WaysOfReading as rs
+use Rattle.parts.specs.State.{heard}
 use Rattle.messages.proofs.Stepping.{step-goes, answer-inside, spoilt-exact, finished-exact, found-exact}
 use Rattle.messages.proofs.Tiling.{walks-tile, walks-fill}
 use Rattle.messages.proofs.Walk.{walk-ends, walks-one}
@@ -31,6 +32,7 @@ use Rattle.claims.proofs.Endings.{word-ends, task-ends, wrote-none, beh
 use Rattle.claims.proofs.Lines.{one-number}
 use Rattle.claims.proofs.Messages as messages
 use Rattle.claims.proofs.Numbers.{writes-word, reads-word, writes-task, reads-block, reads-slot, steps}
+use Rattle.claims.proofs.Parts as parts
 use Rattle.claims.proofs.Slots as slots
 use Rattle.claims.proofs.Words as words
 
@@ -43,6 +45,7 @@ demand1 = record {
   read-block-number = λ link bits old new answer wr. reads-block link bits old new answer wr (rb.reading-goes link bits (length old));
   write-slot-number = λ link datagram old new answer wr. writes-task (slotTask link datagram) old new answer wr (t.writing-goes (slotTask link datagram) (length old));
   read-slot-number = λ burst old new answer wr. reads-slot burst old new answer wr (rs.reading-goes burst (length old));
+  read-parts-number = λ before after old new answer asked. reads-slot (heard before) old new answer (asked .reads) (rs.reading-goes (heard before) (length old));
   step-number = λ datagram position answer e. steps datagram position answer e (step-goes datagram position);
   write-word-refused = λ n old new answer wr. wrote-none (word-ends n (length old)) wr;
   read-word-refused = words.refused;
@@ -50,18 +53,24 @@ demand1 = record {
   read-block-refused = blocks.refused;
   write-slot-refused = λ link datagram old new answer wr. wrote-none (task-ends (slotTask link datagram) (length old)) wr;
   read-slot-refused = slots.refused;
+  read-parts-refused = λ before after old new answer asked. slots.refused (heard before) old new answer (asked .reads);
   step-refused = messages.refused;
   write-word-behind = λ n old new answer wr. behind (word-ends n (length old)) wr;
   write-block-behind = λ link datagram old new answer wr. behind (task-ends (blockTask link datagram) (length old)) wr;
   read-block-behind = λ link bits old new answer wr. behind (blocks.ends link bits (length old)) wr;
   write-slot-behind = λ link datagram old new answer wr. behind (task-ends (slotTask link datagram) (length old)) wr;
   read-slot-behind = λ burst old new answer wr. behind (slots.ends burst (length old)) wr;
+  read-parts-behind = λ before after old new answer asked. behind (slots.ends (heard before) (length old)) (asked .reads);
   write-word-determined = λ n old old' new new' answer answer' l wr wr'. determined (word-ends n (length old)) wr (rw (← l) at wr');
   read-word-determined = λ row answer answer' e f. e ∙ sym f;
   write-block-determined = λ link datagram old old' new new' answer answer' l wr wr'. determined (task-ends (blockTask link datagram) (length old)) wr (rw (← l) at wr');
   read-block-determined = λ link bits old old' new new' answer answer' l wr wr'. determined (blocks.ends link bits (length old)) wr (rw (← l) at wr');
   write-slot-determined = λ link datagram old old' new new' answer answer' l wr wr'. determined (task-ends (slotTask link datagram) (length old)) wr (rw (← l) at wr');
   read-slot-determined = λ burst old old' new new' answer answer' l wr wr'. determined (slots.ends burst (length old)) wr (rw (← l) at wr');
+  take-part-determined = λ part before after after' e f. e ∙ sym f;
+  read-parts-determined = λ before after after' old old' new new' answer answer' l asked asked'.
+      let same = determined (slots.ends (heard before) (length old)) (asked .reads) (rw (← l) at (asked' .reads)) in
+      (same .0, same .1, asked .leaves ∙ sym (asked' .leaves));
   step-determined = λ datagram position answer answer' e f. e ∙ sym f;
   text-determined = λ input answer answer' e f. e ∙ sym f;
   write-word-content = λ n old new new' answer answer' wr wr'. one-content wr wr';
@@ -69,6 +78,7 @@ demand1 = record {
   read-block-content = λ link bits old new new' answer answer' wr wr'. one-content wr wr';
   write-slot-content = λ link datagram old new new' answer answer' wr wr'. one-content wr wr';
   read-slot-content = λ burst old new new' answer answer' wr wr'. one-content wr wr';
+  read-parts-content = λ before after after' old new new' answer answer' asked asked'. one-content (asked .reads) (asked' .reads);
 }
 
 pub demand2 : Demand2
@@ -92,6 +102,13 @@ demand2 = record {
   slots-back = slots.back;
   blocks-full = blocks.full;
   slots-full = slots.full;
+  parts-whole = parts.whole;
+  parts-cutting = parts.cutting;
+  parts-fresh = λ before after old new answer asked. asked .leaves;
+  parts-forged = parts.forged;
+  parts-forged-on = parts.forged-on;
+  parts-back = λ link datagram old new written bytes wr z old' new' answer room came.
+      slots.back link datagram old new written bytes wr z old' new' answer room (parts.whole _ old' new' answer came);
   step-inside = λ datagram position answer e. rw e (answer-inside datagram position);
   message-found = λ datagram position answer e. rw e (found-exact datagram position);
   step-finished = λ datagram position answer e. rw e (finished-exact datagram position);
@@ -126,4 +143,8 @@ demand3 = record {
   slot-exact = slots.exact;
   slot-only-one = slots.only-one;
   slot-answered = λ came link wordWrong u n old new answer room wr. slots.answered came old new answer wr link wordWrong u n room;
+  parts-mended = λ link datagram old new written bytes wr z came size trained word block old' new' answer room c.
+      slots.mended link datagram old new written bytes wr z came size trained word block old' new' answer room (parts.whole _ old' new' answer c);
+  parts-exact = λ came old new answer c. slots.exact came old new answer (parts.whole _ old new answer c);
+  parts-answered = λ came link wordWrong u n old new answer room c. slots.answered came old new answer (parts.whole _ old new answer c) link wordWrong u n room;
 }

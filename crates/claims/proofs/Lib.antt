@@ -5,6 +5,7 @@ pub mod Endings
 pub mod Lines
 pub mod Messages
 pub mod Numbers
+pub mod Parts
 pub mod Slots
 pub mod Tasks
 pub mod Words

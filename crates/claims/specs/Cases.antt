@@ -2,7 +2,7 @@
 use mathlib.Core.Path.{_≡_}
 use mathlib.Core.Bool.{Bool, true, false, not}
 use mathlib.Core.List.{List, [], _∷_, _++_, map}
-use Prim.Native.Nat.{ℕ, zero, suc}
+use Prim.Native.Nat.{ℕ, zero, suc, _≤_}
 use lib.ListN.{length, take, drop, replicate}
 use Rattle.answers.specs.Numbers.{wrongLength, noWord, pastEnd, brokenMessage, brokenFill}
 use Rattle.answers.specs.Outcome.{refusal}
@@ -12,7 +12,8 @@ use Rattle.links.specs.Patterns.{flags}
 use Rattle.links.specs.Rows.{rowOf}
 use Rattle.links.specs.Sizes.{bytesHeld}
 use Rattle.messages.specs.Step.{stepMessage, finished, message, refused as step-refused}
-use Rattle.slots.specs.Burst.{headOf, burstLength}
+use Rattle.parts.specs.State.{stop, state, fresh, taken, heard}
+use Rattle.slots.specs.Burst.{headOf, burstOf, burstLength}
 use Rattle.slots.specs.Calls.{readSlot, refused as slot-refused}
 use Rattle.turbo.specs.Encoder.{start, next, y0, y1}
 use Rattle.turbo.specs.Interleaver.{position}
@@ -67,6 +68,15 @@ pub record Cases : Type 0 where
   pub K1-ends : (stepMessage (81 ∷ []) 0 ≡ finished) × (stepMessage (81 ∷ 0 ∷ []) 0 ≡ finished) × (stepMessage [] 0 ≡ finished) × (stepMessage (81 ∷ 1 ∷ []) 0 ≡ step-refused brokenMessage)
   -- a message behind 81 81; the partner's two messages of 7, each padded with an 81
   pub K1-passed : (stepMessage (81 ∷ 81 ∷ declaring 7) 0 ≡ message 2 7) × (stepMessage (declaring 7 ++ declaring 7) 7 ≡ message 8 7) × (stepMessage (declaring 7 ++ declaring 7) 15 ≡ finished)
+  -- document 02, K2: a part that is empty; one of 0, 1, 1,503, 1,504, 1,505 and 1,600 bytes
+  pub K2-empty : (taken fresh [] ≡ fresh) × ((room : ℕ) → readSlot (heard fresh) room ≡ slot-refused wrongLength)
+  pub K2-counts : map (λ n. taken fresh (replicate n 1) .count) (0 ∷ 1 ∷ 1503 ∷ 1504 ∷ 1505 ∷ 1600 ∷ []) ≡ 0 ∷ 1 ∷ 1503 ∷ 1504 ∷ 1505 ∷ 1505 ∷ []
+  -- bytes that are no bits are kept as they are, behind those that came before
+  pub K2-raw : heard (taken (taken fresh (2 ∷ 255 ∷ [])) (1 ∷ [])) ≡ 2 ∷ 255 ∷ 1 ∷ []
+  -- a burst of link 7 with more behind it is refused with 2, since the count goes one further than the longest burst: with a count of 1,504
+  -- the same bytes would be a good burst
+  pub K2-longer : (datagram : List ℕ) → length datagram ≤ 128 → (byte-behind : ℕ) (more : List ℕ) → let burst = map byte (burstOf 7 datagram) in
+      (taken fresh (burst ++ byte-behind ∷ more) ≡ state stop burst) × (heard (state 1504 burst) ≡ burst) × ((room : ℕ) → readSlot (heard (state stop burst)) room ≡ slot-refused wrongLength)
   -- a slot burst of 480 bits under link 7's word
   pub short-7 : (rest : List Bool) (room : ℕ) → length rest ≡ 394 → readSlot (map byte (headOf 7 ++ rest)) room ≡ slot-refused wrongLength
   -- the lengths of slot bursts

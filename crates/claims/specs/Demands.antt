@@ -26,6 +26,7 @@ use Rattle.blocks.specs.Near.{Valid, Near as NearBlock}
 use Rattle.slots.specs.declared.Slot.{Slot}
 use Rattle.slots.specs.Burst.{trainingPart, wordPart, blockPart, isSlotLink, burstLength, burstOf}
 use Rattle.slots.specs.Near.{Near as NearBurst}
+use Rattle.parts.specs.State.{longest, stop, State, state, fresh}
 use Rattle.messages.specs.declared.Step.{Step}
 use Rattle.messages.specs.Places.{byteAt, PassedOver, Behind, NoneLeft, Spoilt, Begins, Whole}
 use Rattle.messages.specs.Step.{finished, message, refused as stepRefused}
@@ -33,7 +34,7 @@ use Rattle.messages.specs.Tiling.{Tiles, Tiled, bytesOf}
 use Rattle.messages.specs.Walk.{Walks, walk}
 use Rattle.printer_text.specs.declared.Text.{Text}
 use Rattle.claims.specs.Lines.{Lines, Given}
-use Rattle.claims.specs.Calls.{WroteWord, ReadWord, WroteBlock, ReadBlock, WroteSlot, ReadSlot, Stepped, Printed, writeWordLines, readWordLines, writeBlockLines, readBlockLines, writeSlotLines, readSlotLines, stepLines, BlockAnswer, SlotAnswer}
+use Rattle.claims.specs.Calls.{WroteWord, ReadWord, WroteBlock, ReadBlock, WroteSlot, ReadSlot, TookPart, ReadParts, CameInParts, Stepped, Printed, writeWordLines, readWordLines, writeBlockLines, readBlockLines, writeSlotLines, readSlotLines, readPartsLines, stepLines, BlockAnswer, SlotAnswer}
 
 -- "Every call ends and touches nothing but its own buffers, for all input, lying input included." There is no theorem of this: the
 -- checker accepts a function only if it ends for all input and stays inside what it is lent, and no public call has a `requires`.
@@ -47,6 +48,7 @@ pub record Demand1 : Type 1 where
   pub read-block-number : (link : ℕ) (bits old new : List ℕ) (answer : Block) → ReadBlock link bits old new answer → Given (readBlockLines link bits (length old)) (answer .status)
   pub write-slot-number : (link : ℕ) (datagram old new : List ℕ) (answer : Written) → WroteSlot link datagram old new answer → Given (writeSlotLines link datagram (length old)) (answer .status)
   pub read-slot-number : (burst old new : List ℕ) (answer : Slot) → ReadSlot burst old new answer → Given (readSlotLines burst (length old)) (answer .status)
+  pub read-parts-number : (before after : State) (old new : List ℕ) (answer : Slot) → ReadParts before after old new answer → Given (readPartsLines before (length old)) (answer .status)
   pub step-number : (datagram : List ℕ) (position : ℕ) (answer : Step) → Stepped datagram position answer → Given (stepLines datagram position) (answer .status)
   -- "and changes no lent byte", with 0 for all other numbers
   pub write-word-refused : (n : ℕ) (old new : List ℕ) (answer : Written) → WroteWord n old new answer → (answer .status ≡ done → ⊥) → (answer .count ≡ 0) × (new ≡ old)
@@ -57,6 +59,9 @@ pub record Demand1 : Type 1 where
   pub write-slot-refused : (link : ℕ) (datagram old new : List ℕ) (answer : Written) → WroteSlot link datagram old new answer → (answer .status ≡ done → ⊥) → (answer .count ≡ 0) × (new ≡ old)
   pub read-slot-refused : (burst old new : List ℕ) (answer : Slot) → ReadSlot burst old new answer → (answer .status ≡ done → ⊥)
       → (answer .count ≡ 0) × (answer .wrong ≡ 0) × (answer .link ≡ 0) × (answer .«word_wrong» ≡ 0) × (new ≡ old)
+  -- by parts too; the state is the caller's, and none of these bytes
+  pub read-parts-refused : (before after : State) (old new : List ℕ) (answer : Slot) → ReadParts before after old new answer → (answer .status ≡ done → ⊥)
+      → (answer .count ≡ 0) × (answer .wrong ≡ 0) × (answer .link ≡ 0) × (answer .«word_wrong» ≡ 0) × (new ≡ old)
   pub step-refused : (datagram : List ℕ) (position : ℕ) (answer : Step) → Stepped datagram position answer → (answer .status ≡ done → ⊥) → (answer .start ≡ 0) × (answer .length ≡ 0)
   -- bytes behind those that are answered stay
   pub write-word-behind : (n : ℕ) (old new : List ℕ) (answer : Written) → WroteWord n old new answer → drop (answer .count) new ≡ drop (answer .count) old
@@ -64,6 +69,7 @@ pub record Demand1 : Type 1 where
   pub read-block-behind : (link : ℕ) (bits old new : List ℕ) (answer : Block) → ReadBlock link bits old new answer → drop (answer .count) new ≡ drop (answer .count) old
   pub write-slot-behind : (link : ℕ) (datagram old new : List ℕ) (answer : Written) → WroteSlot link datagram old new answer → drop (answer .count) new ≡ drop (answer .count) old
   pub read-slot-behind : (burst old new : List ℕ) (answer : Slot) → ReadSlot burst old new answer → drop (answer .count) new ≡ drop (answer .count) old
+  pub read-parts-behind : (before after : State) (old new : List ℕ) (answer : Slot) → ReadParts before after old new answer → drop (answer .count) new ≡ drop (answer .count) old
   -- "Two calls with equal requests and equally long buffers give equal answers and write equal bytes, however the old contents of
   -- the buffers differed."
   pub write-word-determined : (n : ℕ) (old old' new new' : List ℕ) (answer answer' : Written) → length old ≡ length old'
@@ -77,6 +83,9 @@ pub record Demand1 : Type 1 where
       → WroteSlot link datagram old new answer → WroteSlot link datagram old' new' answer' → (answer ≡ answer') × (take (answer .count) new ≡ take (answer .count) new')
   pub read-slot-determined : (burst old old' new new' : List ℕ) (answer answer' : Slot) → length old ≡ length old'
       → ReadSlot burst old new answer → ReadSlot burst old' new' answer' → (answer ≡ answer') × (take (answer .count) new ≡ take (answer .count) new')
+  pub take-part-determined : (part : List ℕ) (before after after' : State) → TookPart part before after → TookPart part before after' → after ≡ after'
+  pub read-parts-determined : (before after after' : State) (old old' new new' : List ℕ) (answer answer' : Slot) → length old ≡ length old'
+      → ReadParts before after old new answer → ReadParts before after' old' new' answer' → (answer ≡ answer') × (take (answer .count) new ≡ take (answer .count) new') × (after ≡ after')
   pub step-determined : (datagram : List ℕ) (position : ℕ) (answer answer' : Step) → Stepped datagram position answer → Stepped datagram position answer' → answer ≡ answer'
   pub text-determined : (input : List ℕ) (answer answer' : Text) → Printed input answer → Printed input answer' → answer ≡ answer'
   -- and one content of the lent buffer is possible: with equal requests, buffers that held the same before the call hold the same after it
@@ -87,6 +96,8 @@ pub record Demand1 : Type 1 where
   pub write-slot-content : (link : ℕ) (datagram old new new' : List ℕ) (answer answer' : Written)
       → WroteSlot link datagram old new answer → WroteSlot link datagram old new' answer' → new ≡ new'
   pub read-slot-content : (burst old new new' : List ℕ) (answer answer' : Slot) → ReadSlot burst old new answer → ReadSlot burst old new' answer' → new ≡ new'
+  pub read-parts-content : (before after after' : State) (old new new' : List ℕ) (answer answer' : Slot)
+      → ReadParts before after old new answer → ReadParts before after' old new' answer' → new ≡ new'
 
 pub record Demand2 : Type 0 where
   -- "Link words, blocks and slot bursts are those of ITU-R M.2092-1, for the twenty-two links that document 01 lists": they are what
@@ -127,6 +138,21 @@ pub record Demand2 : Type 0 where
   -- zeros at a datagram's end are kept: a reader answers all the bytes that the link holds
   pub blocks-full : (link : ℕ) (bits old new : List ℕ) (answer : Block) → ReadBlock link bits old new answer → answer .status ≡ done → answer .count ≡ bytesHeld (rowOf link)
   pub slots-full : (burst old new : List ℕ) (answer : Slot) → ReadSlot burst old new answer → answer .status ≡ done → answer .count ≡ bytesHeld (rowOf (answer .link))
+  -- document 02, K2: "Asking gives exactly what reading the whole would give, in the same order of refusals, for every way of cutting",
+  -- of bursts longer than the longest too
+  pub parts-whole : (burst old new : List ℕ) (answer : Slot) → CameInParts burst old new answer → ReadSlot burst old new answer
+  pub parts-cutting : (burst old old' new new' : List ℕ) (answer answer' : Slot) → length old ≡ length old' → CameInParts burst old new answer → CameInParts burst old' new' answer'
+      → (answer ≡ answer') × (take (answer .count) new ≡ take (answer .count) new')
+  -- "and leaves a fresh state, after a refusal too"
+  pub parts-fresh : (before after : State) (old new : List ℕ) (answer : Slot) → ReadParts before after old new answer → after ≡ fresh
+  -- "A state whose count lies above 1,505 answers as one of 1,505 does", whatever bytes are kept; and a part makes it one
+  pub parts-forged : (count : ℕ) (bits : List ℕ) → length bits ≡ longest → stop < count → (after : State) (old new : List ℕ) (answer : Slot)
+      → ReadParts (state count bits) after old new answer ↔ ReadParts (state stop bits) after old new answer
+  pub parts-forged-on : (count : ℕ) (bits part : List ℕ) → stop < count → (after : State) → TookPart part (state count bits) after → after ≡ state stop bits
+  -- what we write we read back by parts
+  pub parts-back : (link : ℕ) (datagram old new : List ℕ) (written : Written) → allBytes datagram ≡ true → WroteSlot link datagram old new written → written .status ≡ done
+      → (old' new' : List ℕ) (answer : Slot) → bytesHeld (rowOf link) ≤ length old' → CameInParts (take (written .count) new) old' new' answer
+      → SlotAnswer (zeroFilled (rowOf link) datagram) 0 link 0 old' new' answer
   -- "Messages are divided as document 01 says", with document 02's K1. Whatever a step answers lies inside the datagram
   pub step-inside : (datagram : List ℕ) (position : ℕ) (answer : Step) → Stepped datagram position answer → answer .start + answer .length ≤ length datagram
   -- a message is answered exactly where, behind 81s alone, one begins that is as long as it declares, at least 7, and ends inside the datagram
@@ -210,4 +236,15 @@ pub record Demand3 : Type 0 where
       → (link ≡ link') × (wrong ≡ wrong') × (u ≡ u')
   pub slot-answered : (came : List Bool) (link wordWrong : ℕ) (u : List Bool) → NearBurst came link wordWrong u → (old new : List ℕ) (answer : Slot)
       → bytesHeld (rowOf link) ≤ length old → ReadSlot (map byte came) old new answer
+      → SlotAnswer (datagramOf (rowOf link) u) (differences (imageOf (rowOf link) u) (blockPart came)) link wordWrong old new answer
+  -- document 02, K2: "Demand 3 then holds for bursts that came in parts", however they were cut
+  pub parts-mended : (link : ℕ) (datagram old new : List ℕ) (written : Written) → allBytes datagram ≡ true → WroteSlot link datagram old new written → written .status ≡ done
+      → (came : List Bool) → length came ≡ written .count → trainingPart came ≡ trainingPart (burstOf link datagram)
+      → differences (wordPart (burstOf link datagram)) (wordPart came) ≤ 7 → differences (blockPart (burstOf link datagram)) (blockPart came) ≤ 1
+      → (old' new' : List ℕ) (answer : Slot) → bytesHeld (rowOf link) ≤ length old' → CameInParts (map byte came) old' new' answer
+      → SlotAnswer (zeroFilled (rowOf link) datagram) (differences (blockPart (burstOf link datagram)) (blockPart came)) link (differences (wordPart (burstOf link datagram)) (wordPart came)) old' new' answer
+  pub parts-exact : (came : List Bool) (old new : List ℕ) (answer : Slot) → CameInParts (map byte came) old new answer
+      → (answer .status ≡ done) ↔ ((link : ℕ) × (wordWrong : ℕ) × (u : List Bool) × NearBurst came link wordWrong u × (bytesHeld (rowOf link) ≤ length old))
+  pub parts-answered : (came : List Bool) (link wordWrong : ℕ) (u : List Bool) → NearBurst came link wordWrong u → (old new : List ℕ) (answer : Slot)
+      → bytesHeld (rowOf link) ≤ length old → CameInParts (map byte came) old new answer
       → SlotAnswer (datagramOf (rowOf link) u) (differences (imageOf (rowOf link) u) (blockPart came)) link wordWrong old new answer

@@ -8,8 +8,10 @@ use slots::Slot;
 use words::Word;
 ghost use mathlib.Core.Path.{_≡_};
 ghost use mathlib.Core.Bool.{true};
+ghost use lib.ListN.{length};
 ghost use Rattle.bits.specs.Datagram.{allBytes};
-ghost use Rattle.claims.specs.Calls.{WroteWord, ReadWord, WroteBlock, ReadBlock, WroteSlot, ReadSlot, Stepped, Printed};
+ghost use Rattle.parts.specs.State.{longest, state};
+ghost use Rattle.claims.specs.Calls.{WroteWord, ReadWord, WroteBlock, ReadBlock, WroteSlot, ReadSlot, TookPart, ReadParts, Stepped, Printed};
 
 pub fn write_word(number: u32, out: &mut [u8]) -> Written
     ensures { λ r. ⌜ WroteWord number (now (out .entry)) (now (out .exit)) r ⌝ }
@@ -45,6 +47,29 @@ pub fn read_slot(burst: &[u8], out: &mut [u8]) -> Slot
     ensures { λ r. ⌜ ReadSlot (now (burst .entry)) (now (out .entry)) (now (out .exit)) r ⌝ }
 {
     decklewren::decklewren_read_slot(burst, out)
+}
+
+pub fn take_part(count: &mut u32, bits: &mut [u8; 1504], part: &[u8])
+    ensures { λ _. ⌜ TookPart (now (part .entry)) (state (now (count .entry)) (now (bits .entry))) (state (now (count .exit)) (now (bits .exit))) ⌝ }
+{
+    decklewren::decklewren_take_part(count, bits, part);
+}
+
+pub fn read_parts(count: &mut u32, bits: &mut [u8; 1504], out: &mut [u8]) -> Slot
+    ensures { λ r. ⌜ ReadParts (state (now (count .entry)) (now (bits .entry))) (state (now (count .exit)) (now (bits .exit))) (now (out .entry)) (now (out .exit)) r ⌝ }
+{
+    decklewren::decklewren_read_parts(count, bits, out)
+}
+
+fn length_of(bytes: &[u8]) -> usize {
+    bytes.len()
+}
+
+// What is lent as the bytes of a state is as long as the longest burst.
+pub fn kept(bits: &mut [u8; 1504]) -> usize
+    ensures { λ r. ⌜ length (now (bits .entry)) ≡ longest ⌝ }
+{
+    length_of(bits)
 }
 
 pub fn step_message(datagram: &[u8], position: usize) -> Step

@@ -1,0 +1,38 @@
+-- What is shown of bursts that come in parts, from the laws of the crate `parts`: they are read as the whole is.
+-- Assumes nothing.
+use mathlib.Core.Path.{_≡_, sym, ap, _∙_}
+use mathlib.Core.Logic.{_↔_}
+use mathlib.Core.List.{List, []}
+use Prim.Native.Nat.{ℕ, _<_}
+use native.Mathlib.Omega.{arith}
+use lib.ListN.{length, take}
+use Rattle.slots.specs.declared.Slot.{Slot}
+use Rattle.slots.specs.Calls.{readSlot}
+use Rattle.parts.specs.State.{longest, stop, State, state, fresh, heard}
+use Rattle.parts.specs.Taking.{joined}
+use Rattle.parts.proofs.Growing.{full}
+use Rattle.parts.proofs.Hearing.{too-long}
+use Rattle.parts.proofs.Holding.{fresh-holds, took-holds, reads-as-whole}
+use Rattle.claims.specs.Calls.{ReadSlot, TookPart, ReadParts, CameInParts}
+use Rattle.claims.proofs.Endings.{determined}
+use Rattle.claims.proofs.Slots as slots
+
+pub whole : (burst old new : List ℕ) (answer : Slot) → CameInParts burst old new answer → ReadSlot burst old new answer
+whole burst old new answer c =
+    let held = took-holds (c .parts) [] fresh (c .before) fresh-holds (c .took) in
+    rw (← c .cut, ← reads-as-whole (joined (c .parts)) (c .before) held (length old)) (c .asked .reads)
+
+pub cutting : (burst old old' new new' : List ℕ) (answer answer' : Slot) → length old ≡ length old' → CameInParts burst old new answer → CameInParts burst old' new' answer'
+    → (answer ≡ answer') × (take (answer .count) new ≡ take (answer .count) new')
+cutting burst old old' new new' answer answer' l c c' =
+    determined (slots.ends burst (length old)) (whole burst old new answer c) (rw (← l) at (whole burst old' new' answer' c'))
+
+-- ---- a count above the stop
+pub forged : (count : ℕ) (bits : List ℕ) → length bits ≡ longest → stop < count → (after : State) (old new : List ℕ) (answer : Slot)
+    → ReadParts (state count bits) after old new answer ↔ ReadParts (state stop bits) after old new answer
+forged count bits e h after old new answer =
+    let same : heard (state count bits) ≡ heard (state stop bits) = too-long count bits e (omega arith) ∙ sym (too-long stop bits e (omega arith)) in
+    (λ r. record { reads = rw same at (r .reads); leaves = r .leaves }, λ r. record { reads = rw (← same) at (r .reads); leaves = r .leaves })
+
+pub forged-on : (count : ℕ) (bits part : List ℕ) → stop < count → (after : State) → TookPart part (state count bits) after → after ≡ state stop bits
+forged-on count bits part h after took = took ∙ sym (full count bits part (omega arith))
