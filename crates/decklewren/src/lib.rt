@@ -71,7 +71,11 @@ pub extern "C" fn decklewren_take_part(count: &mut u32, bits: &mut [u8; 1504], p
 }
 
 #[no_mangle]
-pub extern "C" fn decklewren_read_parts(count: &mut u32, bits: &mut [u8; 1504], out: &mut [u8]) -> Slot
+pub extern "C" fn decklewren_read_parts(
+    count: &mut u32,
+    bits: &mut [u8; 1504],
+    out: &mut [u8],
+) -> Slot
     ensures { λ r. ⌜ Asked (state (now (count .entry)) (now (bits .entry))) (state (now (count .exit)) (now (bits .exit))) (now (out .entry)) (now (out .exit)) r ⌝ }
 {
     parts::read(count, bits, out)

@@ -8,26 +8,31 @@ ghost use Rattle.slots.specs.Calls.{readSlot};
 ghost use Rattle.parts.specs.State.{longest, state, blank, taken, heard};
 ghost use Rattle.parts.specs.Asking.{Asked};
 
+// The bits of the longest burst, and the count at which counting stops.
+const LONGEST: usize = 1504;
+
+const STOP: u32 = 1505;
+
 // Lays a part behind the bytes that are kept, as far as there is room, and answers the new count.
 fn keep(count: u32, kept: &mut [u8], part: &[u8]) -> u32
     requires { ⌜ length (now kept) ≡ longest ⌝ }
     ensures { λ r. ⌜ state r (now (kept .exit)) ≡ taken (state count (now (kept .entry))) (now (part .entry)) ⌝ }
 {
-    if count > 1504 {
-        return 1505;
+    if count >= STOP {
+        return STOP;
     }
     let at = count as usize;
-    let room = 1504 - at;
+    let room = LONGEST - at;
     if part.len() > room {
         bits::lay_bytes(&part[..room], kept, at);
-        return 1505;
+        return STOP;
     }
     bits::lay_bytes(part, kept, at);
     count + part.len() as u32
 }
 
 // Takes a part of a burst.
-pub fn take(count: &mut u32, bits: &mut [u8; 1504], part: &[u8])
+pub fn take(count: &mut u32, bits: &mut [u8; LONGEST], part: &[u8])
     ensures { λ _. ⌜ state (now (count .exit)) (now (bits .exit)) ≡ taken (state (now (count .entry)) (now (bits .entry))) (now (part .entry)) ⌝ }
 {
     *count = keep(*count, bits, part);
@@ -38,22 +43,22 @@ fn read_heard(count: u32, kept: &[u8], out: &mut [u8]) -> Slot
     requires { ⌜ length (now kept) ≡ longest ⌝ }
     ensures { λ r. ⌜ Wrote (readSlot (heard (state count (now (kept .entry)))) (length (now (out .entry)))) (now (out .entry)) (now (out .exit)) r ⌝ }
 {
-    if count > 1504 {
-        return slots::read(&kept[..86], out);
+    if count < STOP {
+        let end = count as usize;
+        return slots::read(&kept[..end], out);
     }
-    let end = count as usize;
-    slots::read(&kept[..end], out)
+    slots::read(&kept[..86], out)
 }
 
 // The bytes of a fresh state. They are handed out by a function: as a literal they would stand in every goal.
-fn blank() -> [u8; 1504]
+fn blank() -> [u8; LONGEST]
     ensures { λ r. ⌜ r ≡ blank ⌝ }
 {
-    [0; 1504]
+    [0; LONGEST]
 }
 
 // Reads the burst that came, and lays its datagram at the buffer's start.
-pub fn read(count: &mut u32, bits: &mut [u8; 1504], out: &mut [u8]) -> Slot
+pub fn read(count: &mut u32, bits: &mut [u8; LONGEST], out: &mut [u8]) -> Slot
     ensures { λ r. ⌜ Asked (state (now (count .entry)) (now (bits .entry))) (state (now (count .exit)) (now (bits .exit))) (now (out .entry)) (now (out .exit)) r ⌝ }
 {
     let slot = read_heard(*count, bits, out);

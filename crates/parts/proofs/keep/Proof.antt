@@ -6,7 +6,7 @@ use native.Mathlib.Omega.{arith}
 use lib.ListN.{length}
 use lib.Seq.{length-take-le}
 use borrow.Author.Needs.{needs}
-use Rattle.parts.specs.State.{State, state}
+use Rattle.parts.specs.State.{longest, stop, State, state}
 use Rattle.parts.proofs.Growing.{full, cut, whole}
 use Rattle.parts.proofs.keep.Statement.{statement}
 use Rattle.parts.proofs.keep.Tie as tie
@@ -19,17 +19,17 @@ returns c =
 slice-aggregate-lay-bytes : tie.Need-slice-aggregate-lay-bytes
 slice-aggregate-lay-bytes c =
     let a = c .before .before .before .before .before .args in
-    sym (length-take-le (1504 - a .count) (a .part .now) (omega arith))
+    sym (length-take-le _ (a .part .now) (omega arith))
 
 lay-bytes-requires : tie.Need-lay-bytes-requires
 lay-bytes-requires c κs =
     let a = c .before .before .before .before .before .before .args in
-    omega (arith, length-take-le (1504 - a .count) (a .part .now) (omega arith))
+    omega (arith, length-take-le (longest - a .count) (a .part .now) (omega arith))
 
 returns-2 : tie.Need-returns-2
 returns-2 c =
     let a = c .before .before .before .before .before .before .before .before .before .args in
-    ap (λ (bits : List ℕ). state 1505 bits) (c .before .before .lay-bytes .ensures) ∙ cut (a .count) (a .kept .now) (a .part .now) (omega arith) (omega arith)
+    ap (λ (bits : List ℕ). state stop bits) (c .before .before .lay-bytes .ensures) ∙ cut (a .count) (a .kept .now) (a .part .now) (omega arith) (omega arith)
 
 returns-3 : tie.Need-returns-3
 returns-3 c =
