@@ -2,24 +2,29 @@
    with the System V ABI. "Document 01" is the firm's document that sets the scope, "document 02" the list of changes to it; where
    they differ from M.2092-1, they decide.
 
-   THE CALLS keep nothing between them and need no preparing. Bits travel one to a byte, with the byte 0 or 1. Datagrams are plain
-   bytes. Every call answers a struct whose status is 0 (done) or the number of a refusal.
+   THE CALLS keep nothing between them and need no preparing. A slot burst that comes in parts is kept by the caller, in a state:
+   a decklewren_parts. Bits travel one to a byte, with the byte 0 or 1. Datagrams are plain bytes. Every call answers a struct whose
+   status is 0 (done) or the number of a refusal; only decklewren_take_part, which refuses nothing, answers nothing.
 
-   A REFUSAL answers its number, 0 for all else, and changes no byte. Each call names its refusals in the order in which they
-   are tried: where several apply, the first of that list is answered.
+   A REFUSAL answers its number, 0 for all else, and changes no byte of the buffers; a state that was asked is fresh all the same.
+   Each call names its refusals in the order in which they are tried: where several apply, the first of that list is answered.
 
    WHAT A CALLER KEEPS TO. A pointer is valid for the length that follows it, for writing where it is not const; where the length
-   is 0 it may be NULL. The buffers of one call do not overlap, and nobody changes them while the call runs. The stack has room:
-   DECKLEWREN_STACK_... below says how much. Nothing else is asked: any number may stand for a link or a position, any bytes in
-   the buffers, and a buffer may begin at any address, since bytes need no alignment.
+   is 0 it may be NULL. The pointers count and bits are never NULL: they point to a state of the sizes in decklewren_parts, count
+   aligned as a uint32_t is. The buffers and the state of one call do not overlap, and nobody changes them while the call runs. The
+   stack has room: DECKLEWREN_STACK_... below says how much. Nothing else is asked: any number may stand for a link or a position
+   and in a state's count, any bytes in the buffers and in a state's bits, and a buffer may begin at any address, since bytes need
+   no alignment.
 
    THREADS AND INTERRUPTS. The archive has no writable data, no heap and no locks: calls may run side by side in threads and inside
-   one another, as where a signal or interrupt handler calls while a call runs. A handler needs the stack too. On a bare machine it
-   saves the SSE registers, and it leaves alone the 128 bytes below the stack pointer that it interrupts (the ABI's red zone): the
-   archive uses both. Of the C library it takes memcpy and memset.
+   one another, as where a signal or interrupt handler calls while a call runs. But a state is for one call at a time: where an
+   interrupt hands over the parts and the main loop asks, no part may come to a state while it is asked. Either use two states in
+   turn, so that the interrupt fills one while the other is asked, or mask the interrupt. A handler needs the stack too. On a bare
+   machine it saves the SSE registers, and it leaves alone the 128 bytes below the stack pointer that it interrupts (the ABI's red
+   zone): the archive uses both. Of the C library it takes memcpy and memset.
 
-   WHAT IS PROVED, of the Rattle sources of these calls, for all input: a call returns, touches nothing but the buffers that it
-   is lent, and answers and writes what its contract says. The contracts leave one answer and one content of the buffers: what
+   WHAT IS PROVED, of the Rattle sources of these calls, for all input: a call returns, touches nothing but the buffers and the state
+   that it is lent, and answers and writes what its contract says. The contracts leave one answer and one content of the buffers: what
    these held before reaches neither the answer nor the bytes that it counts, and the bytes behind those stay as they were. Each
    refusal is answered exactly when it is the first of its call's list that applies. "Proved" at a call below says what else.
 
@@ -39,10 +44,10 @@ extern "C" {
 /* The version, here and nowhere else. MAJOR rises where a program must change or be compiled again (a call, a struct or a name that
    was there has changed or is gone), MINOR where something is new or a call answers otherwise, PATCH with every other change. */
 #define DECKLEWREN_VERSION_MAJOR 0
-#define DECKLEWREN_VERSION_MINOR 3
+#define DECKLEWREN_VERSION_MINOR 4
 #define DECKLEWREN_VERSION_PATCH 0
 
-/* The same as text: "0.3.0" is a literal, made of the three numbers. */
+/* The same as text: "0.4.0" is a literal, made of the three numbers. */
 #define DECKLEWREN_TEXT_OF(major, minor, patch) #major "." #minor "." #patch
 #define DECKLEWREN_TEXT(major, minor, patch) DECKLEWREN_TEXT_OF(major, minor, patch)
 #define DECKLEWREN_VERSION DECKLEWREN_TEXT(DECKLEWREN_VERSION_MAJOR, DECKLEWREN_VERSION_MINOR, DECKLEWREN_VERSION_PATCH)
@@ -123,6 +128,8 @@ enum {
     DECKLEWREN_STACK_READ_BLOCK = 26624,
     DECKLEWREN_STACK_WRITE_SLOT = 13312,
     DECKLEWREN_STACK_READ_SLOT = 26624,
+    DECKLEWREN_STACK_TAKE_PART = 128,
+    DECKLEWREN_STACK_READ_PARTS = 28672,
     DECKLEWREN_STACK_STEP_MESSAGE = 1536
 };
 
@@ -197,6 +204,13 @@ typedef struct {
     uint32_t word_wrong;
 } decklewren_slot;
 
+/* A slot burst that comes in parts, the caller's to keep: how many bytes came, counted up to 1505, and the first 1504 of them. It is
+   fresh where all is zero, as a static one is at the start and every one after it was asked. */
+typedef struct {
+    uint32_t count;
+    uint8_t bits[DECKLEWREN_BURST_MOST];
+} decklewren_parts;
+
 /* What a step through a datagram answers: where a message starts and its total length; both are 0 where no more follow. */
 typedef struct {
     uint32_t status;
@@ -260,6 +274,33 @@ decklewren_written decklewren_write_slot(uint32_t link, const uint8_t *datagram,
              seven places and the image of a block of that link within one place of the rest; only one link and block are so near,
              and they are the answer. So seven wrong bits of the word and one of the block are always mended */
 decklewren_slot decklewren_read_slot(const uint8_t *bits, size_t bits_len, uint8_t *out, size_t out_len);
+
+/* Takes the next part of a slot burst into a state (document 02, K2).
+   Returns:  nothing
+   In:       part, any number of bytes, also none. They are kept as they come: one that is no bit is refused when the state is asked
+   Out:      count, more by part_len and at most 1505; bits, with the part behind what came before, as far as there is room
+   Refusals: none
+   Proved:   count and bits become just that, whatever they were */
+void decklewren_take_part(uint32_t *count, uint8_t bits[DECKLEWREN_BURST_MOST], const uint8_t *part, size_t part_len);
+
+/* Asks a state for its slot burst: reads what came as decklewren_read_slot does, and leaves the state fresh (document 02, K2).
+   Returns:  as decklewren_read_slot
+   In:       count and bits, as the parts left them; a count above 1505 is read as 1505
+   Out:      the datagram as by decklewren_read_slot; count 0 and all of bits 0, after a refusal too, so that no byte of a burst
+             outlives its answer
+   Refusals: as decklewren_read_slot, in the same order. After 3 the burst is gone as well
+   Proved:   from a fresh state and for every list of parts, the answer and the bytes in out are those of reading the joined parts
+             whole, also where they are longer than 1504; the state is fresh afterwards */
+decklewren_slot decklewren_read_parts(uint32_t *count, uint8_t bits[DECKLEWREN_BURST_MOST], uint8_t *out, size_t out_len);
+
+/* The same two calls on a decklewren_parts. */
+static inline void decklewren_parts_take(decklewren_parts *parts, const uint8_t *part, size_t part_len) {
+    decklewren_take_part(&parts->count, parts->bits, part, part_len);
+}
+
+static inline decklewren_slot decklewren_parts_read(decklewren_parts *parts, uint8_t *out, size_t out_len) {
+    return decklewren_read_parts(&parts->count, parts->bits, out, out_len);
+}
 
 /* Finds the message that begins at a position of a datagram (M.2092-1, Annex 4, 4.9), or behind the bytes 81 there: these are fill,
    which a step passes over, and may stand before, between and behind the messages. A byte 0 in the place of a type begins the zero
