@@ -104,6 +104,25 @@ static void check_training(void) {
     }
 }
 
+/* A state has the sizes that the archive is lent, and begins fresh. A burst that comes in two parts, with an empty one between them,
+   is read and leaves it fresh. */
+static void check_parts(void) {
+    static decklewren_parts parts, fresh;
+    expect("bytes of a state", 0, 1508, sizeof parts);
+    expect("place of its bits", 0, 4, offsetof(decklewren_parts, bits));
+    for (size_t n = 0; n < SLOT_LINKS; n++) {
+        sizes of = slot_links[n];
+        decklewren_write_slot(of.link, datagram, 0, bits, of.burst);
+        decklewren_parts_take(&parts, bits, 100);
+        decklewren_parts_take(&parts, bits + 100, 0);
+        decklewren_parts_take(&parts, bits + 100, of.burst - 100);
+        expect("bits that came, link", of.link, of.burst, parts.count);
+        expect("bits kept, link", of.link, 0, (uint64_t)memcmp(parts.bits, bits, of.burst));
+        expect("bytes held by parts, link", of.link, of.held, decklewren_parts_read(&parts, datagram, of.held).count);
+        expect("fresh state, link", of.link, 0, (uint64_t)memcmp(&parts, &fresh, sizeof parts));
+    }
+}
+
 /* Every status has words of its own, and a number that is none has those of no status. */
 static void check_words(void) {
     for (uint32_t status = 0; status <= 11; status++) {
@@ -160,6 +179,7 @@ int main(void) {
     check_most();
     check_sizes();
     check_training();
+    check_parts();
     check_words();
     check_version();
     printf("%u passed, %u failed\n", passed, failed);

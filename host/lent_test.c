@@ -46,6 +46,20 @@ static void check_null_slots(uint32_t link, size_t held, size_t burst) {
     expect("read_slot, both NULL", link, DECKLEWREN_WRONG_LENGTH, decklewren_read_slot(NULL, 0, NULL, 0).status);
 }
 
+/* An empty part at NULL changes nothing; a burst in parts needs room as a whole one does, and is gone afterwards. */
+static void check_null_parts(uint32_t link, size_t burst) {
+    decklewren_parts parts = {0}, before = {0};
+    decklewren_write_slot(link, datagram, 0, bits, burst);
+    decklewren_parts_take(&parts, NULL, 0);
+    expect("take_part, part NULL, fresh", link, 0, (uint64_t)memcmp(&parts, &before, sizeof parts));
+    decklewren_parts_take(&parts, bits, burst);
+    before = parts;
+    decklewren_parts_take(&parts, NULL, 0);
+    expect("take_part, part NULL", link, 0, (uint64_t)memcmp(&parts, &before, sizeof parts));
+    expect("read_parts, out NULL", link, DECKLEWREN_NO_ROOM, decklewren_parts_read(&parts, NULL, 0).status);
+    expect("read_parts, out NULL, nothing came", link, DECKLEWREN_WRONG_LENGTH, decklewren_parts_read(&parts, NULL, 0).status);
+}
+
 static void check_null_elsewhere(void) {
     expect("write_block, no such link", 4, DECKLEWREN_NOT_OFFERED, decklewren_write_block(4, NULL, 0, NULL, 0).status);
     expect("read_block, no such link", 4, DECKLEWREN_NOT_OFFERED, decklewren_read_block(4, NULL, 0, NULL, 0).status);
@@ -72,14 +86,32 @@ static void check_address(size_t off) {
     expect("step_message at an address", at, 7, decklewren_step_message(to + off, DECKLEWREN_HELD_7, 0).length);
 }
 
+/* A burst in parts, with its state's bits and every buffer this many bytes behind an address that 64 divides. */
+static void check_parts_address(size_t off) {
+    static _Alignas(64) uint8_t row[DECKLEWREN_BURST_MOST + 64], state[DECKLEWREN_BURST_MOST + 64], to[DECKLEWREN_HELD_7 + 64];
+    uint32_t at = (uint32_t)off, count = 0;
+    decklewren_write_slot(7, NULL, 0, row + off, DECKLEWREN_BURST_7);
+    decklewren_take_part(&count, state + off, row + off, 700);
+    decklewren_take_part(&count, state + off, row + off + 700, DECKLEWREN_BURST_7 - 700);
+    expect("take_part at an address", at, DECKLEWREN_BURST_7, count);
+    expect("take_part, equal bits", at, 0, (uint64_t)memcmp(row + off, state + off, DECKLEWREN_BURST_7));
+    expect("read_parts at an address", at, DECKLEWREN_HELD_7,
+           decklewren_read_parts(&count, state + off, to + off, DECKLEWREN_HELD_7).count);
+    memset(row, 0, sizeof row);
+    expect("read_parts, bits cleared", at, 0, (uint64_t)memcmp(row, state, sizeof state));
+}
+
 int main(void) {
     check_null_words();
 #define NULL_BLOCKS(link, held, image) check_null_blocks(link, held, image);
     DECKLEWREN_LINKS(NULL_BLOCKS)
 #define NULL_SLOTS(link, burst) check_null_slots(link, DECKLEWREN_HELD_##link, burst);
     DECKLEWREN_SLOT_LINKS(NULL_SLOTS)
+#define NULL_PARTS(link, burst) check_null_parts(link, burst);
+    DECKLEWREN_SLOT_LINKS(NULL_PARTS)
     check_null_elsewhere();
     for (size_t off = 0; off < 64; off++) check_address(off);
+    for (size_t off = 0; off < 64; off++) check_parts_address(off);
     printf("%u passed, %u failed\n", passed, failed);
     return failed != 0;
 }
