@@ -7,18 +7,19 @@
 #include <string.h>
 #include <ucontext.h>
 
-/* One request: which call, its link or position, how many bytes or bits it is given, and the room for its answer. */
+/* One request: which call, its link, position or state's count, how many bytes or bits it is given, and the room for its answer. */
 typedef struct {
     unsigned call;
     uint32_t link;
     size_t given, room;
 } request;
 
-enum { WRITE_WORD, READ_WORD, WRITE_BLOCK, READ_BLOCK, WRITE_SLOT, READ_SLOT, STEP_MESSAGE, CALLS };
+enum { WRITE_WORD, READ_WORD, WRITE_BLOCK, READ_BLOCK, WRITE_SLOT, READ_SLOT, TAKE_PART, READ_PARTS, STEP_MESSAGE, CALLS };
 enum { PAINTED = 262144 };
 
 static uint8_t stack[PAINTED];
 static uint8_t datagram[DECKLEWREN_HELD_MOST + 1], bits[DECKLEWREN_IMAGE_MOST], out[DECKLEWREN_IMAGE_MOST];
+static decklewren_parts parts;
 static request asked;
 static const uint8_t *at_the_call;
 static ucontext_t here, there;
@@ -36,6 +37,8 @@ static void make_call(void) {
     case READ_BLOCK: status = decklewren_read_block(asked.link, bits, asked.given, out, asked.room).status; break;
     case WRITE_SLOT: status = decklewren_write_slot(asked.link, datagram, asked.given, out, asked.room).status; break;
     case READ_SLOT: status = decklewren_read_slot(bits, asked.given, out, asked.room).status; break;
+    case TAKE_PART: decklewren_take_part(&parts.count, parts.bits, bits, asked.given); break;
+    case READ_PARTS: status = decklewren_read_parts(&parts.count, parts.bits, out, asked.room).status; break;
     default: status = decklewren_step_message(datagram, asked.given, asked.link).status; break;
     }
     (void)status;
@@ -55,16 +58,20 @@ static size_t depth_on(uint8_t paint) {
     return (size_t)(at_the_call - stack) - lowest;
 }
 
-static const char *const names[CALLS] = {"write_word", "read_word", "write_block", "read_block", "write_slot", "read_slot", "step_message"};
-static const size_t told[CALLS] = {DECKLEWREN_STACK_WRITE_WORD, DECKLEWREN_STACK_READ_WORD, DECKLEWREN_STACK_WRITE_BLOCK,
+static const char *const names[CALLS] = {"write_word", "read_word", "write_block", "read_block",  "write_slot",
+                                         "read_slot",  "take_part", "read_parts",  "step_message"};
+static const size_t told[CALLS] = {DECKLEWREN_STACK_WRITE_WORD, DECKLEWREN_STACK_READ_WORD,  DECKLEWREN_STACK_WRITE_BLOCK,
                                    DECKLEWREN_STACK_READ_BLOCK, DECKLEWREN_STACK_WRITE_SLOT, DECKLEWREN_STACK_READ_SLOT,
-                                   DECKLEWREN_STACK_STEP_MESSAGE};
+                                   DECKLEWREN_STACK_TAKE_PART,  DECKLEWREN_STACK_READ_PARTS, DECKLEWREN_STACK_STEP_MESSAGE};
 static size_t most[CALLS];
 
+/* The state holds the bits and the request's count each time: a call changes it. */
 static void measure(unsigned call, uint32_t link, size_t given, size_t room) {
     asked = (request){call, link, given, room};
     const uint8_t paints[] = {0x55, 0xAA};
     for (size_t n = 0; n < sizeof paints; n++) {
+        parts.count = link;
+        memcpy(parts.bits, bits, sizeof parts.bits);
         size_t depth = depth_on(paints[n]);
         if (depth > most[call]) most[call] = depth;
     }
@@ -100,6 +107,43 @@ static void measure_slot(uint32_t link, size_t held, size_t burst) {
     measure_reading(READ_SLOT, link, burst - decklewren_image(link), burst);
 }
 
+/* Counts of a state: fresh, in the head of a burst, at each burst's length and beside it, too long, forged. */
+static const uint32_t counts[] = {0, 1, 85, 86, 479, 480, 481, 991, 992, 993, 1503, 1504, 1505, 1506, UINT32_MAX};
+enum { COUNTS = sizeof counts / sizeof *counts };
+
+static void measure_taking(void) {
+    static const size_t lengths[] = {0, 1, 8, 64, 86, 1503, 1504, 1505, 1506, sizeof bits};
+    for (size_t n = 0; n < COUNTS; n++) {
+        for (size_t of = 0; of < sizeof lengths / sizeof *lengths; of++) measure(TAKE_PART, counts[n], lengths[of], 0);
+    }
+}
+
+/* Asks with this damage on so many places, for every count, with room and with none; then the bits are as they were. */
+static void measure_asking(size_t place, size_t length, uint8_t damage) {
+    for (size_t n = 0; n < length; n++) bits[place + n] ^= damage;
+    for (size_t n = 0; n < COUNTS; n++) {
+        measure(READ_PARTS, counts[n], 0, sizeof out);
+        measure(READ_PARTS, counts[n], 0, 0);
+    }
+    for (size_t n = 0; n < length; n++) bits[place + n] ^= damage;
+}
+
+/* Every outcome of asking: a good burst, mended ones, and each refusal. */
+static void measure_parts(uint32_t link, size_t burst) {
+    enum { WORD = DECKLEWREN_TRAINING_BITS, HEAD = WORD + DECKLEWREN_WORD_BITS };
+    decklewren_write_slot(link, datagram, 0, bits, sizeof bits);
+    measure_asking(0, 0, 0);
+    measure_asking(HEAD, 1, 1);
+    measure_asking(HEAD, 2, 1);
+    measure_asking(WORD, 7, 1);
+    measure_asking(WORD, 8, 1);
+    measure_asking(0, 1, 1);
+    measure_asking(0, 1, 2);
+    measure_asking(burst - 1, 1, 2);
+    decklewren_write_word(8, bits + WORD, DECKLEWREN_WORD_BITS);
+    measure_asking(0, 0, 0);
+}
+
 /* Steps over fill, to each thing that may stand behind it: the end, a message, the zero fill, one that is spoilt, a message past the
    end, and too few bytes for one. The step goes through fill in turns: runs of every length up to LONGEST_RUN end in each of them. */
 static void measure_steps(void) {
@@ -124,6 +168,9 @@ int main(void) {
     DECKLEWREN_LINKS(BLOCK)
 #define SLOT(link, burst) measure_slot(link, DECKLEWREN_HELD_##link, burst);
     DECKLEWREN_SLOT_LINKS(SLOT)
+    measure_taking();
+#define PARTS(link, burst) measure_parts(link, burst);
+    DECKLEWREN_SLOT_LINKS(PARTS)
     for (uint32_t position = 0; position < 10; position++) measure(STEP_MESSAGE, position, 8, 0);
     measure_steps();
     for (unsigned call = 0; call < CALLS; call++) {
