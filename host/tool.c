@@ -7,16 +7,16 @@
 static const char help[] =
     "usage: decklewren COMMAND\n"
     "\n"
-    "  links                   the links, the bytes that they hold, the bits of an image and of a slot burst\n"
-    "  word N                  writes the link word of a number\n"
-    "  read-word               reads a link word and prints its number\n"
-    "  write LINK [-x]         writes the image of a datagram's block\n"
-    "  read LINK [-x]          reads the image of a block and prints the datagram\n"
-    "  write-slot LINK [-x]    writes the slot burst of a datagram\n"
-    "  read-slot [-x]          reads a slot burst and prints the datagram\n"
-    "  step [POSITION] [-x]    prints start and length of each message of a datagram, or of the next from a position on\n"
-    "  damage N [--seed S]     inverts N different bits; the same ones each time for one seed (1 if none is given)\n"
-    "  help                    prints this, as --help and -h do; --version prints the version\n"
+    "  links                       the links, the bytes that they hold, the bits of an image and of a slot burst\n"
+    "  word N                      writes the link word of a number\n"
+    "  read-word                   reads a link word and prints its number\n"
+    "  write LINK [-x]             writes the image of a datagram's block\n"
+    "  read LINK [-x]              reads the image of a block and prints the datagram\n"
+    "  write-slot LINK [-x]        writes the slot burst of a datagram\n"
+    "  read-slot [-x] [--parts N]  reads a slot burst, whole or by parts of N bits, and prints the datagram\n"
+    "  step [POSITION] [-x]        prints start and length of each message of a datagram, or of the next from a position on\n"
+    "  damage N [--seed S]         inverts N different bits; the same ones each time for one seed (1 if none is given)\n"
+    "  help                        prints this, as --help and -h do; --version prints the version\n"
     "\n"
     "Input comes from standard input, at most 64 KiB. Bits are characters 0 and 1 and end with a newline; one newline at\n"
     "the end of the input is no bit. Datagrams are bytes, or hexadecimal digits with -x. Counts go to standard error, once\n"
@@ -25,15 +25,15 @@ static const char help[] =
     "3 standard input cannot be read or standard output cannot be written.\n";
 
 static const command commands[] = {
-    {"links", NONE, 0, 0, run_links},
-    {"word", NEEDED, 0, 0, run_word},
-    {"read-word", NONE, 0, 0, run_read_word},
-    {"write", NEEDED, 1, 0, run_write},
-    {"read", NEEDED, 1, 0, run_read},
-    {"write-slot", NEEDED, 1, 0, run_write_slot},
-    {"read-slot", NONE, 1, 0, run_read_slot},
-    {"step", OPTIONAL, 1, 0, run_step},
-    {"damage", NEEDED, 0, 1, run_damage},
+    {"links", NONE, 0, 0, 0, run_links},
+    {"word", NEEDED, 0, 0, 0, run_word},
+    {"read-word", NONE, 0, 0, 0, run_read_word},
+    {"write", NEEDED, 1, 0, 0, run_write},
+    {"read", NEEDED, 1, 0, 0, run_read},
+    {"write-slot", NEEDED, 1, 0, 0, run_write_slot},
+    {"read-slot", NONE, 1, 1, 0, run_read_slot},
+    {"step", OPTIONAL, 1, 0, 0, run_step},
+    {"damage", NEEDED, 0, 0, 1, run_damage},
 };
 
 static const command *find(const char *name) {

@@ -11,20 +11,20 @@ enum { ENDED_WELL = 0, REFUSED = 1, WRONG_USAGE = 2, NOT_READ_OR_WRITTEN = 3 };
 enum { INPUT_MOST = 65536 };
 
 /* What the command line asks for. A number too large for its place is taken as the largest there, never cut to another one; `typed`
-   is the number as it stands on the command line. */
+   is the number as it stands on the command line. `part` is the length of the parts that a burst is read by, 0 for the whole. */
 typedef struct {
     const char *typed;
     uint64_t number;
     int hex;
-    uint64_t seed;
+    uint64_t part, seed;
 } request;
 
-/* A command: whether it takes a number, -x, --seed. */
+/* A command: whether it takes a number, -x, --parts, --seed. */
 enum need { NONE, OPTIONAL, NEEDED };
 typedef struct {
     const char *name;
     enum need number;
-    int takes_hex, takes_seed;
+    int takes_hex, takes_parts, takes_seed;
     int (*run)(const request *asked);
 } command;
 

@@ -1,4 +1,4 @@
-/* What stands behind a command: a number, -x, --seed. Wrong usage is told by what is wrong with it. */
+/* What stands behind a command: a number, -x, --parts, --seed. Wrong usage is told by what is wrong with it. */
 #include "tool.h"
 #include <stdarg.h>
 #include <stdio.h>
@@ -27,7 +27,7 @@ static int is_number(const char *text, uint64_t *number) {
     return *text != '\0';
 }
 
-/* The next three take arguments and answer how many; 0, with the fault told, where the command does not take them. */
+/* The next four take arguments and answer how many; 0, with the fault told, where the command does not take them. */
 static int take_hex(const command *called, request *asked) {
     if (!called->takes_hex) {
         wrong_usage("%s does not take -x", called->name);
@@ -37,20 +37,30 @@ static int take_hex(const command *called, request *asked) {
     return 1;
 }
 
-static int take_seed(const command *called, char **arguments, int left, request *asked) {
-    if (!called->takes_seed) {
-        wrong_usage("%s does not take --seed", called->name);
+/* An option and the number behind it. */
+static int take_option(const command *called, int takes, char **arguments, int left, uint64_t *number) {
+    if (!takes) {
+        wrong_usage("%s does not take %s", called->name, arguments[0]);
         return 0;
     }
     if (left < 2) {
-        wrong_usage("a number is missing behind --seed");
+        wrong_usage("a number is missing behind %s", arguments[0]);
         return 0;
     }
-    if (!is_number(arguments[1], &asked->seed)) {
-        wrong_usage("--seed takes a number, and '%s' is none", arguments[1]);
+    if (!is_number(arguments[1], number)) {
+        wrong_usage("%s takes a number, and '%s' is none", arguments[0], arguments[1]);
         return 0;
     }
     return 2;
+}
+
+static int take_parts(const command *called, char **arguments, int left, request *asked) {
+    int taken = take_option(called, called->takes_parts, arguments, left, &asked->part);
+    if (taken != 0 && asked->part == 0) {
+        wrong_usage("--parts takes a number from 1 on");
+        return 0;
+    }
+    return taken;
 }
 
 static int take_number(const command *called, const char *argument, request *asked) {
@@ -74,7 +84,8 @@ static int take_number(const command *called, const char *argument, request *ask
 
 static int take_next(const command *called, char **arguments, int left, request *asked) {
     if (strcmp(arguments[0], "-x") == 0) return take_hex(called, asked);
-    if (strcmp(arguments[0], "--seed") == 0) return take_seed(called, arguments, left, asked);
+    if (strcmp(arguments[0], "--parts") == 0) return take_parts(called, arguments, left, asked);
+    if (strcmp(arguments[0], "--seed") == 0) return take_option(called, called->takes_seed, arguments, left, &asked->seed);
     if (strncmp(arguments[0], "--", 2) == 0) {
         wrong_usage("there is no option '%s'", arguments[0]);
         return 0;

@@ -59,6 +59,16 @@ static int refuse_slot(uint32_t status, const input *bits) {
     }
 }
 
+/* Hands the bits over by parts of this length, the last one shorter where it must be, and asks. */
+static decklewren_slot read_by_parts(const input *bits, uint64_t part, uint8_t *out, size_t out_len) {
+    decklewren_parts parts = {0};
+    for (size_t at = 0, taken; at < bits->count; at += taken) {
+        taken = part < bits->count - at ? (size_t)part : bits->count - at;
+        decklewren_parts_take(&parts, bits->bytes + at, taken);
+    }
+    return decklewren_parts_read(&parts, out, out_len);
+}
+
 int run_read_slot(const request *asked) {
     static input bits;
     uint8_t datagram[DECKLEWREN_HELD_7];
@@ -66,7 +76,8 @@ int run_read_slot(const request *asked) {
     if (taken != ENDED_WELL) {
         return taken;
     }
-    decklewren_slot slot = decklewren_read_slot(bits.bytes, bits.count, datagram, sizeof datagram);
+    decklewren_slot slot = asked->part == 0 ? decklewren_read_slot(bits.bytes, bits.count, datagram, sizeof datagram)
+                                            : read_by_parts(&bits, asked->part, datagram, sizeof datagram);
     if (slot.status != DECKLEWREN_DONE) {
         return refuse_slot(slot.status, &bits);
     }

@@ -21,6 +21,7 @@ pub const TESTS: &[NamedTest] = named_tests![
     tool_writes_slots,
     tool_reads_slots,
     tool_refuses_slots,
+    tool_reads_slots_by_parts,
     tool_walks_messages,
     tool_walks_over_fill,
     tool_steps_at_positions,
@@ -257,12 +258,44 @@ fn tool_reads_slots(given: &Given, test: &mut Test) {
     }
 }
 
-/// Every refusal of the list of document 01 that a large enough buffer leaves.
+/// Every refusal of the list of document 01 that a large enough buffer leaves, whole and by parts.
 fn tool_refuses_slots(given: &Given, test: &mut Test) {
     let second = Second::read(&given.tables);
     for ((burst, _), _) in ordered_faults::reading_slots(&second) {
-        let expected = slot_read(&second, &burst);
-        runs(given, test, "read-slot -x", &line(&burst), expected);
+        for command in ["read-slot -x", "read-slot -x --parts 43"] {
+            let expected = slot_read(&second, &burst);
+            runs(given, test, command, &line(&burst), expected);
+        }
+    }
+}
+
+/// Document 02's K2: parts of any length show what the whole burst shows, be it good, mended,
+/// refused, too short or too long. The last length is a number above 64 bits.
+fn tool_reads_slots_by_parts(given: &Given, test: &mut Test) {
+    let second = Second::read(&given.tables);
+    let mut random = test.random(608);
+    for number in SLOT_LINKS {
+        let link = second.links.of(number);
+        let burst = burst_of(&second, link, &random_datagram(link, &mut random));
+        let longer = |bits| [&burst[..], &vec![1; bits]].concat();
+        let mut non_bit = burst.clone();
+        non_bit[burst.len() - 1] = 2;
+        for row in [
+            inverted(&burst, &[TRAINING, HEAD]),
+            inverted(&burst, &[HEAD, HEAD + 9]),
+            inverted(&burst, &[TRAINING - 1]),
+            burst[1..].to_vec(),
+            longer(1),
+            longer(2000),
+            non_bit,
+            burst,
+        ] {
+            for part in ["1", "7", "64", "1504", "18446744073709551617"] {
+                let command = format!("read-slot -x --parts {part}");
+                let expected = slot_read(&second, &row);
+                runs(given, test, &command, &line(&row), expected);
+            }
+        }
     }
 }
 

@@ -113,6 +113,11 @@ fn tool_takes_64_kib(given: &Given, test: &mut Test) {
         ("read-word", 2, "65536 bits came, a link word has 32"),
         ("read 5", 2, "65536 bits came, the image of link 5 has 394"),
         ("read-slot", 5, "28 of 54 bits differ, the first at place 0"),
+        (
+            "read-slot --parts 9",
+            5,
+            "28 of 54 bits differ, the first at place 0",
+        ),
         ("write 5", 2, "65536 bytes came, link 5 holds 32"),
         ("write-slot 5", 2, "65536 bytes came, link 5 holds 32"),
     ] {
@@ -226,7 +231,7 @@ fn tool_helps(given: &Given, test: &mut Test) {
             "write LINK",
             "read LINK",
             "write-slot LINK",
-            "read-slot",
+            "read-slot [-x] [--parts N]",
             "step [POSITION]",
             "damage N [--seed S]",
             "help",
@@ -270,6 +275,26 @@ fn tool_refuses_wrong_usage(given: &Given, test: &mut Test) {
             "--seed takes a number, and 'x' is none",
         ),
         ("write 5 --seed 1", "write does not take --seed"),
+        ("read-slot --parts", "a number is missing behind --parts"),
+        ("read-slot --parts 0", "--parts takes a number from 1 on"),
+        (
+            "read-slot --parts x",
+            "--parts takes a number, and 'x' is none",
+        ),
+        (
+            "read-slot --parts -1",
+            "--parts takes a number, and '-1' is none",
+        ),
+        ("read-slot --parts 8 5", "read-slot does not take '5'"),
+        (
+            "read-slot --parts 8 --seed 1",
+            "read-slot does not take --seed",
+        ),
+        ("read 5 --parts 8", "read does not take --parts"),
+        ("read-word --parts 8", "read-word does not take --parts"),
+        ("write-slot 5 --parts 8", "write-slot does not take --parts"),
+        ("step --parts 8", "step does not take --parts"),
+        ("damage 1 --parts 8", "damage does not take --parts"),
     ] {
         let errors = format!("decklewren: {words}\nTry 'decklewren --help'.\n");
         runs(given, test, arguments, b"0", ended(2, &[], errors));
