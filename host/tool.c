@@ -1,5 +1,5 @@
-/* decklewren, the command line tool: one command for each call of the library, with its request on the command line and on
-   standard input, its bytes on standard output and its numbers on standard error. */
+/* decklewren, the command line tool: commands for all the calls of the library, with a request on the command line and on standard
+   input, its bytes on standard output and its numbers on standard error. */
 #include "tool.h"
 #include <stdio.h>
 #include <string.h>
