@@ -6,7 +6,7 @@
 # make test: the gate, as .ci/run runs it; ends 'N passed, 0 failed'.
 # make refusals: the first error of each must-fail edit, from the logs of the last gate.
 # make soak: not in the gate. CALLS calls of each kind, random, damaged and malformed, the archive against the second implementation.
-# make bench: nanoseconds per block and ratios to a plain writer in C, measured in one run.
+# make bench: nanoseconds per block and ratios to a plain writer in C, and of slot bursts by parts to whole ones, measured in one run.
 # make stack: bytes of stack that each call takes, against what the header says.
 # make picture: draws docs/slot-burst.svg again, from the header's numbers.
 # make clean: removes build/; the proofs and the archive in target/ stay.
@@ -98,8 +98,9 @@ soak: $(ARCHIVE)
 bench: build/bench
 	build/bench
 
-build/bench: bench/bench.c bench/plain.c bench/plain.h $(HEADER) $(ARCHIVE) | build
-	$(COMPILE) -O3 bench/bench.c bench/plain.c $(ARCHIVE) $(LDFLAGS) -o $@
+BENCH = bench/bench.c bench/parts.c bench/plain.c bench/rounds.c
+build/bench: $(BENCH) bench/bench.h bench/plain.h $(HEADER) $(ARCHIVE) | build
+	$(COMPILE) -O3 $(BENCH) $(ARCHIVE) $(LDFLAGS) -o $@
 
 stack: build/stack
 	build/stack

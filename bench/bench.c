@@ -1,52 +1,28 @@
 /* Compares the library with the plain writer of plain.c, both in one run: nanoseconds per block, median of many rounds, and the
-   ratio. The blocks of a round are all different, so that a processor cannot learn their bits. */
-#define _POSIX_C_SOURCE 200809L
+   ratio. The blocks of a round are all different, so that a processor cannot learn their bits. Then slot bursts by parts. */
+#include "bench.h"
 #include "decklewren.h"
 #include "plain.h"
 #include <stdio.h>
 #include <stdlib.h>
 #include <string.h>
-#include <time.h>
 
-enum { ROUNDS = 301, MOST = 200, LONGEST = DECKLEWREN_IMAGE_MOST, HELD = DECKLEWREN_HELD_MOST };
+enum { MOST = 200, LONGEST = DECKLEWREN_IMAGE_MOST, HELD = DECKLEWREN_HELD_MOST };
 
 static uint8_t datagrams[MOST][HELD], came[MOST][LONGEST], plain_image[LONGEST], image[LONGEST], out[HELD];
 static size_t came_length;
 static decklewren_block block;
 
-static double now(void) {
-    struct timespec t;
-    clock_gettime(CLOCK_MONOTONIC, &t);
-    return (double)t.tv_sec * 1e9 + (double)t.tv_nsec;
-}
-
-static int by_size(const void *a, const void *b) {
-    double x = *(const double *)a, y = *(const double *)b;
-    return (x > y) - (x < y);
-}
-
-/* A call that is measured, on a link whose datagrams have `held` bytes: the call number i of a round. */
-typedef void call(uint32_t link, size_t held, int i);
-
 static void write_plain(uint32_t link, size_t held, int i) { plain_write_block(link, datagrams[i], held, plain_image); }
 static void write_proved(uint32_t link, size_t held, int i) { decklewren_write_block(link, datagrams[i], held, image, sizeof image); }
 static void read_proved(uint32_t link, size_t held, int i) { block = decklewren_read_block(link, came[i], came_length, out, held); }
 
-/* The median of the rounds of the plain writer and of a call, a round of one and of the other in turn. */
+static void prepare_nothing(void) {}
+
+/* The plain writer and a call. */
 static void measure(uint32_t link, size_t held, int blocks, call *measured) {
-    static double a[ROUNDS], b[ROUNDS];
-    for (int round = 0; round < ROUNDS; round++) {
-        double start = now();
-        for (int i = 0; i < blocks; i++) write_plain(link, held, i);
-        double middle = now();
-        for (int i = 0; i < blocks; i++) measured(link, held, i);
-        a[round] = (middle - start) / blocks;
-        b[round] = (now() - middle) / blocks;
-    }
-    qsort(a, ROUNDS, sizeof *a, by_size);
-    qsort(b, ROUNDS, sizeof *b, by_size);
-    double plain = a[ROUNDS / 2], proved = b[ROUNDS / 2];
-    printf("plain %8.0f ns, proved %8.0f ns, ratio %.2f\n", plain, proved, proved / plain);
+    medians of = in_turn(link, held, blocks, write_plain, measured, prepare_nothing);
+    printf("plain %8.0f ns, proved %8.0f ns, ratio %.2f\n", of.first, of.second, of.second / of.first);
 }
 
 static void measure_writing(uint32_t link, size_t held, int blocks) {
@@ -106,5 +82,6 @@ int main(void) {
     measure_writing(19, DECKLEWREN_HELD_19, 10);
     measure_all_reading(5, DECKLEWREN_HELD_5, MOST);
     measure_all_reading(19, DECKLEWREN_HELD_19, 10);
+    measure_parts();
     return 0;
 }
