@@ -61,7 +61,7 @@ static void measure_asking(uint32_t link, size_t held) {
 static void measure_taking(uint32_t link, size_t held, size_t length) {
     part = length;
     medians of = in_turn(link, held, BURSTS, read_whole, take, empty_states);
-    printf("take  link %2u, by %2u bits:     ", (unsigned)link, (unsigned)part);
+    printf("take  link %2u, parts of %2u:    ", (unsigned)link, (unsigned)part);
     printf("whole %8.0f ns, parts  %8.0f ns, ratio %.2f, ", of.first, of.second, of.second / of.first);
     printf("%.1f ns a part\n", of.second / (double)(decklewren_burst(link) / part));
 }

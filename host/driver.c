@@ -6,15 +6,15 @@
 #include <string.h>
 
 static decklewren_parts states[2]; /* zero, and so fresh */
-static volatile unsigned filled;   /* the state that the interrupt fills; only the main loop changes it */
+static volatile unsigned filling;  /* the state that the interrupt fills; only the main loop changes it */
 
 /* The radio's interrupt. */
-static void take_fifo(const uint8_t *fifo, size_t held) { decklewren_parts_take(&states[filled], fifo, held); }
+static void take_fifo(const uint8_t *fifo, size_t held) { decklewren_parts_take(&states[filling], fifo, held); }
 
 /* The main loop, once a burst has ended: what comes now goes into the other state, so that none is changed while it is asked. */
 static decklewren_slot ask(uint8_t *datagram, size_t datagram_len) {
-    decklewren_parts *ended = &states[filled];
-    filled = 1 - filled;
+    decklewren_parts *ended = &states[filling];
+    filling = 1 - filling;
     return decklewren_parts_read(ended, datagram, datagram_len);
 }
 

@@ -10,11 +10,11 @@
    Each call names its refusals in the order in which they are tried: where several apply, the first of that list is answered.
 
    WHAT A CALLER KEEPS TO. A pointer is valid for the length that follows it, for writing where it is not const; where the length
-   is 0 it may be NULL. The pointers count and bits are never NULL: they point to a state of the sizes in decklewren_parts, count
-   aligned as a uint32_t is. The buffers and the state of one call do not overlap, and nobody changes them while the call runs. The
-   stack has room: DECKLEWREN_STACK_... below says how much. Nothing else is asked: any number may stand for a link or a position
-   and in a state's count, any bytes in the buffers and in a state's bits, and a buffer may begin at any address, since bytes need
-   no alignment.
+   is 0 it may be NULL. The two pointers to a state, count and bits, are never NULL: both are valid for the sizes in decklewren_parts,
+   and count is aligned as a uint32_t is. The buffers and the state of one call do not overlap, and nobody changes them while the call
+   runs. The stack has room: DECKLEWREN_STACK_... below says how much. Nothing else is asked: any number may stand for a link or a
+   position and in a state's count, any bytes in the buffers and in a state's bits, and a buffer may begin at any address, since bytes
+   need no alignment.
 
    THREADS AND INTERRUPTS. The archive has no writable data, no heap and no locks: calls may run side by side in threads and inside
    one another, as where a signal or interrupt handler calls while a call runs. But a state is for one call at a time: where an
@@ -277,7 +277,7 @@ decklewren_slot decklewren_read_slot(const uint8_t *bits, size_t bits_len, uint8
 
 /* Takes the next part of a slot burst into a state (document 02, K2).
    Returns:  nothing
-   In:       part, any number of bytes, also none. They are kept as they come: one that is no bit is refused when the state is asked
+   In:       part, any number of bytes, also none. They are kept as they come: one that is no bit is judged when the state is asked
    Out:      count, more by part_len and at most 1505; bits, with the part behind what came before, as far as there is room
    Refusals: none
    Proved:   count and bits become just that, whatever they were */
