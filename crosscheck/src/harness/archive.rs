@@ -1,5 +1,8 @@
 //! The calls of the archive under test, as its C interface declares them, behind safe functions.
 
+use crate::second::parts::LONGEST;
+use std::ptr;
+
 #[repr(C)]
 #[derive(Clone, Copy, Debug, PartialEq)]
 pub struct Written {
@@ -71,6 +74,13 @@ extern "C" {
         out: *mut u8,
         out_len: usize,
     ) -> SlotRead;
+    fn decklewren_take_part(count: *mut u32, bits: *mut u8, part: *const u8, part_len: usize);
+    fn decklewren_read_parts(
+        count: *mut u32,
+        bits: *mut u8,
+        out: *mut u8,
+        out_len: usize,
+    ) -> SlotRead;
     fn decklewren_step_message(
         datagram: *const u8,
         datagram_len: usize,
@@ -112,6 +122,22 @@ pub fn read_slot(bits: &mut [u8], out: &mut [u8]) -> SlotRead {
     let (bits, bits_len) = (bits.as_mut_ptr(), bits.len());
     // SAFETY: each pointer and its length are those of one slice, lent for the call.
     unsafe { decklewren_read_slot(bits, bits_len, out.as_mut_ptr(), out.len()) }
+}
+
+pub fn take_part(count: &mut u32, bits: &mut [u8; LONGEST], part: &mut [u8]) {
+    // SAFETY: the state is the caller's; pointer and length are those of one slice, lent for the call.
+    unsafe { decklewren_take_part(count, bits.as_mut_ptr(), part.as_mut_ptr(), part.len()) }
+}
+
+/// An empty part of a caller that has no pointer to it.
+pub fn take_no_part(count: &mut u32, bits: &mut [u8; LONGEST]) {
+    // SAFETY: the state is the caller's; of no bytes the pointer may be null.
+    unsafe { decklewren_take_part(count, bits.as_mut_ptr(), ptr::null(), 0) }
+}
+
+pub fn read_parts(count: &mut u32, bits: &mut [u8; LONGEST], out: &mut [u8]) -> SlotRead {
+    // SAFETY: the state is the caller's; pointer and length are those of one slice, lent for the call.
+    unsafe { decklewren_read_parts(count, bits.as_mut_ptr(), out.as_mut_ptr(), out.len()) }
 }
 
 pub fn step_message(datagram: &mut [u8], position: usize) -> Stepped {

@@ -8,6 +8,9 @@ use std::{ptr, slice};
 /// Bytes in the room and in the guard on either side: a multiple of every page size in use.
 pub const ROOM: usize = 65_536;
 
+/// A room is laid in pieces of so many bytes: under an emulator one long copy takes ten times as long.
+const PIECE: usize = 1024;
+
 const PROT_NONE: c_int = 0;
 const PROT_READ: c_int = 1;
 const PROT_WRITE: c_int = 2;
@@ -107,9 +110,28 @@ impl Guarded {
         unsafe { slice::from_raw_parts_mut(self.start(), ROOM) }
     }
 
+    /// Lays this content over the whole room.
+    pub fn lay(&mut self, content: &[u8]) {
+        let pieces = self.bytes().chunks_mut(PIECE).zip(content.chunks(PIECE));
+        pieces.for_each(|(piece, content)| piece.copy_from_slice(content));
+    }
+
     /// The buffer of this length at this place.
     pub fn buffer(&mut self, placed: Placed, length: usize) -> &mut [u8] {
         &mut self.bytes()[placed.span(length)]
+    }
+
+    /// The four bytes at this place, as the number that a call is lent.
+    pub fn number(&mut self, placed: Placed) -> &mut u32 {
+        let bytes = self.buffer(placed, 4).as_mut_ptr();
+        // SAFETY: either place is four bytes from a page's edge at most, so the number is aligned.
+        unsafe { &mut *bytes.cast() }
+    }
+
+    /// Whether every byte outside this span is as in `old`.
+    pub fn rest_is(&mut self, old: &[u8], span: Range<usize>) -> bool {
+        let room = self.bytes();
+        room[..span.start] == old[..span.start] && room[span.end..] == old[span.end..]
     }
 }
 

@@ -3,6 +3,7 @@
 
 pub mod archive;
 pub mod caller;
+pub mod every_status;
 pub mod guarded;
 pub mod mixed_faults;
 pub mod ordered_faults;
@@ -13,4 +14,5 @@ pub mod requests;
 pub mod samples;
 pub mod sent;
 pub mod shown;
+pub mod state;
 pub mod tool;

@@ -7,6 +7,7 @@ use crate::second::crc;
 use crate::second::datagrams::block;
 use crate::second::images::image;
 use crate::second::links::Link;
+use crate::second::parts::{State, LONGEST};
 use crate::second::slots::{SlotReading, HEAD, TRAINING};
 use crate::second::words::Refusal;
 use crate::second::Second;
@@ -124,5 +125,14 @@ pub fn slot_with_wrong(
     match wrong_in(HEAD..HEAD + link.image_length()) {
         wrong @ 0..=1 => slot_found(link, datagram, wrong as u32, word_wrong),
         _ => Err(7),
+    }
+}
+
+/// A state with this count. Its bytes are those of the row, and then these, as far as there is room.
+pub fn state_of(count: u32, row: &[u8], behind: &[u8]) -> State {
+    let all = [row, behind].concat();
+    State {
+        count,
+        bits: all[..LONGEST].try_into().expect("bytes for all of it"),
     }
 }

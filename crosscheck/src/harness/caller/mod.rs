@@ -1,8 +1,12 @@
 //! Makes the calls of a case: with each buffer against the guard before it and against the guard
 //! behind it, and when writing each time over different old contents.
 
+pub mod parts;
+
 use crate::harness::guarded::{Guarded, Placed, BOTH_PLACES, ROOM};
+use crate::harness::random::Random;
 use crate::harness::report::Test;
+use crate::harness::state::LentState;
 use std::fmt::Debug;
 
 /// What is seen of a call that writes to a buffer: its answer, the first byte that is not as it was
@@ -50,12 +54,15 @@ impl<A> Reading<A> {
 }
 
 /// Calls the archive in a running test. It has a room for what a call reads, one for what it writes
-/// to, and what the latter holds before each call of a case.
+/// to, what the latter holds before each call of a case, and states that take parts.
 pub struct Caller<'a> {
     pub test: &'a mut Test,
+    /// Chooses where bursts are cut.
+    pub cutting: Random,
     input: Guarded,
     output: Guarded,
     old_contents: Vec<Vec<u8>>,
+    state: LentState,
 }
 
 impl<'a> Caller<'a> {
@@ -77,10 +84,17 @@ impl<'a> Caller<'a> {
     fn of(test: &'a mut Test, input: Guarded, old_contents: Vec<Vec<u8>>) -> Caller<'a> {
         Caller {
             test,
+            cutting: Random::from_seed(2),
             input,
             output: Guarded::new(),
             old_contents,
+            state: LentState::fresh(),
         }
+    }
+
+    /// How many old contents there are.
+    pub fn contents(&self) -> usize {
+        self.old_contents.len()
     }
 
     /// A call that reads this row: it is to give this answer. It is made at both places.
@@ -164,26 +178,21 @@ fn writing<A>(
     written: &[u8],
     call: impl FnOnce(&mut [u8]) -> A,
 ) -> Writing<A> {
-    room.bytes().copy_from_slice(old);
+    room.lay(old);
     let answer = room.lend(placed, length, call);
-    let (start, count) = (placed.span(length).start, written.len());
-    let (before, seen, behind) = parted(room.bytes(), start, count);
-    let (old_before, _, old_behind) = parted(old, start, count);
+    let start = placed.span(length).start;
+    let span = start..start + written.len();
     Writing {
         answer,
-        first_wrong: first_wrong(written, seen),
-        rest_unchanged: before == old_before && behind == old_behind,
+        first_wrong: first_wrong(written, &room.bytes()[span.clone()]),
+        rest_unchanged: room.rest_is(old, span),
     }
 }
 
-/// What stands before, in and behind the `count` bytes from this start on.
-fn parted(room: &[u8], start: usize, count: usize) -> (&[u8], &[u8], &[u8]) {
-    let (before, rest) = room.split_at(start);
-    let (written, behind) = rest.split_at(count);
-    (before, written, behind)
-}
-
 fn first_wrong(written: &[u8], seen: &[u8]) -> Option<WrongByte> {
+    if written == seen {
+        return None;
+    }
     let place = (0..written.len()).find(|&place| written[place] != seen[place])?;
     Some(WrongByte {
         place,

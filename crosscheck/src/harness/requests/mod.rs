@@ -2,6 +2,7 @@
 
 pub mod blocks;
 pub mod messages;
+pub mod parts;
 pub mod slots;
 pub mod words;
 

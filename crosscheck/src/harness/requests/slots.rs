@@ -2,14 +2,13 @@
 
 use crate::harness::archive::{self, SlotRead};
 use crate::harness::caller::Caller;
+use crate::harness::requests::parts::{cut, ReadParts};
 use crate::harness::requests::{to_be_written, Request};
 use crate::harness::shown::{shown_datagram, shown_to};
+use crate::second::parts::LONGEST;
 use crate::second::slots::SlotReading;
 use crate::second::words::Refusal;
 use crate::second::Second;
-
-/// The bits of the longest slot burst: a burst that is shown is shown whole.
-const LONGEST: usize = 1504;
 
 /// Link, datagram, bytes of the buffer.
 pub struct WriteSlot<'a>(pub u32, pub &'a [u8], pub usize);
@@ -35,7 +34,7 @@ impl Request for WriteSlot<'_> {
     }
 }
 
-/// What came, bytes of the buffer.
+/// What came, bytes of the buffer. It is read whole and, as a case of its own, cut at random.
 pub struct ReadSlot<'a>(pub &'a [u8], pub usize);
 
 impl Request for ReadSlot<'_> {
@@ -48,7 +47,27 @@ impl Request for ReadSlot<'_> {
 
     fn ask_archive(&self, caller: &mut Caller, expected: Self::Answer) {
         let ReadSlot(burst, length) = *self;
+        ReadWhole(burst, length).ask_archive(caller, expected.clone());
+        let parts = cut(burst, &mut caller.cutting);
+        ReadParts::of_fresh(&parts, length).ask_archive_once(caller, expected);
+    }
+}
+
+/// The same read whole alone.
+pub struct ReadWhole<'a>(pub &'a [u8], pub usize);
+
+impl Request for ReadWhole<'_> {
+    type Answer = Result<SlotReading, Refusal>;
+
+    fn ask_second(&self, second: &Second) -> Self::Answer {
+        let ReadWhole(burst, length) = *self;
+        second.read_slot(burst, length)
+    }
+
+    fn ask_archive(&self, caller: &mut Caller, expected: Self::Answer) {
+        let ReadWhole(burst, length) = *self;
         let name = || {
+            // The longest burst is shown whole.
             let burst = shown_to(LONGEST, burst);
             format!("read_slot, burst {burst}, buffer of {length} bytes")
         };
@@ -58,7 +77,7 @@ impl Request for ReadSlot<'_> {
 }
 
 /// What a reading call is to answer and to write.
-fn to_be_read(expected: Result<SlotReading, Refusal>) -> (SlotRead, Vec<u8>) {
+pub fn to_be_read(expected: Result<SlotReading, Refusal>) -> (SlotRead, Vec<u8>) {
     let (status, written, wrong, link, word_wrong) = match expected {
         Ok(SlotReading {
             block,

@@ -1,0 +1,58 @@
+//! Requests to read a slot burst, at least one for every status that reading one can have, and what
+//! each answers.
+
+use crate::harness::ordered_faults::SlotRequest;
+use crate::harness::samples::{burst_of, slot_with_wrong};
+use crate::second::bits::{bits, inverted};
+use crate::second::slots::{SlotReading, HEAD, TRAINING};
+use crate::second::words::Refusal;
+use crate::second::Second;
+
+pub type Answered = (SlotRequest, Result<SlotReading, Refusal>);
+
+pub fn requests(second: &Second) -> Vec<Answered> {
+    [read(second), refused(second)].concat()
+}
+
+/// A burst of each link, and one of link 5 that is mended: two wrong in its word, one in its block.
+fn read(second: &Second) -> Vec<Answered> {
+    let datagram = [93, 0, 9, 1, 2, 3, 4, 5, 6];
+    let wrong = [TRAINING, TRAINING + 31, HEAD + 200];
+    let read = [(5, &[][..]), (6, &[]), (7, &[]), (5, &wrong)].map(|(number, wrong)| {
+        let link = second.links.of(number);
+        let burst = inverted(&burst_of(second, link, &datagram), wrong);
+        let answer = slot_with_wrong(link, &datagram, wrong);
+        ((burst, link.bytes()), answer)
+    });
+    read.to_vec()
+}
+
+/// Link 5's burst with one fault each, in document 01's order.
+fn refused(second: &Second) -> Vec<Answered> {
+    let good = burst_of(second, second.links.of(5), &[74, 0, 7, 9, 9, 9, 9]);
+    let with_non_bit = |place: usize| {
+        let mut burst = good.clone();
+        burst[place] = 2;
+        burst
+    };
+    let under_word = |number: usize| {
+        let mut burst = good.clone();
+        burst[TRAINING..HEAD].copy_from_slice(&bits(second.words.of(number)));
+        burst
+    };
+    let eight: Vec<usize> = (TRAINING..TRAINING + 8).collect();
+    let faults = [
+        (good[..HEAD - 1].to_vec(), 32, 2),
+        (with_non_bit(HEAD - 1), 32, 4),
+        (inverted(&good, &[TRAINING - 1]), 32, 5),
+        (inverted(&good, &eight), 32, 6),
+        (under_word(8), 32, 1),
+        (good[..good.len() - 1].to_vec(), 32, 2),
+        (under_word(7), 128, 2),
+        (good.clone(), 31, 3),
+        (with_non_bit(good.len() - 1), 32, 4),
+        (inverted(&good, &[HEAD, HEAD + 9]), 32, 7),
+    ];
+    let answered = faults.map(|(burst, buffer, refusal)| ((burst, buffer), Err(refusal)));
+    answered.to_vec()
+}
