@@ -7,6 +7,8 @@ mod fill;
 mod links;
 mod messages;
 mod outside;
+mod parts;
+mod parts_states;
 mod printer;
 mod readers;
 mod refusals;
@@ -38,6 +40,8 @@ pub fn all() -> Vec<NamedTest> {
         slots_writing::TESTS,
         slots_reading::TESTS,
         slots_refusals::TESTS,
+        parts::TESTS,
+        parts_states::TESTS,
         tool::TESTS,
         tool_use::TESTS,
     ]
