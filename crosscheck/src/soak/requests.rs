@@ -6,11 +6,13 @@ use crate::harness::ordered_faults::NOT_OFFERED;
 use crate::harness::random::Random;
 use crate::harness::requests::blocks::{ReadBlock, WriteBlock};
 use crate::harness::requests::messages::StepMessage;
-use crate::harness::requests::slots::{ReadSlot, WriteSlot};
+use crate::harness::requests::parts::{cut, ReadParts};
+use crate::harness::requests::slots::{ReadWhole, WriteSlot};
 use crate::harness::requests::words::{ReadWord, WriteWord};
-use crate::harness::samples::{burst_of, image_of, random_datagram};
+use crate::harness::samples::{burst_of, image_of, random_datagram, state_of};
 use crate::second::bits::bits;
 use crate::second::links::Link;
+use crate::second::parts::LONGEST;
 use crate::second::slots::{HEAD, SLOT_LINKS, TRAINING};
 use crate::second::words::PLACES;
 use crate::second::Second;
@@ -18,13 +20,14 @@ use crate::second::Second;
 /// A call by its name, and a function that makes one case of it.
 pub type Kind = (&'static str, fn(&Second, &mut Random, &mut Caller));
 
-pub const KINDS: [Kind; 7] = [
+pub const KINDS: [Kind; 8] = [
     ("write_word", write_a_word),
     ("read_word", read_a_word),
     ("write_block", write_a_block),
     ("read_block", read_a_block),
     ("write_slot", write_a_slot),
     ("read_slot", read_a_slot),
+    ("read_parts", read_parts),
     ("step_message", step_once),
 ];
 
@@ -148,8 +151,9 @@ fn write_a_slot(second: &Second, random: &mut Random, caller: &mut Caller) {
     caller.compare(second, WriteSlot(number, &datagram, length));
 }
 
-/// Training, word and block are damaged each on its own; the word may be that of another number.
-fn read_a_slot(second: &Second, random: &mut Random, caller: &mut Caller) {
+/// What came and the bytes of a buffer. Training, word and block are damaged each on its own; the word
+/// may be that of another number.
+fn some_burst(second: &Second, random: &mut Random) -> (Vec<u8>, usize) {
     let link = second.links.of(SLOT_LINKS[random.below(3)]);
     let mut row = burst_of(second, link, &random_datagram(link, random));
     if once_in(10, random) {
@@ -161,8 +165,41 @@ fn read_a_slot(second: &Second, random: &mut Random, caller: &mut Caller) {
     damage(&mut row[TRAINING..HEAD], 10, random);
     damage(&mut row[HEAD..], 5, random);
     let row = lie(row, random);
-    let length = room_for(link.bytes(), random);
-    caller.compare(second, ReadSlot(&row, length));
+    (row, room_for(link.bytes(), random))
+}
+
+fn read_a_slot(second: &Second, random: &mut Random, caller: &mut Caller) {
+    let (row, length) = some_burst(second, random);
+    caller.compare(second, ReadWhole(&row, length));
+}
+
+/// Parts for a state that is fresh, or that has the beginning already, or that holds anything.
+fn read_parts(second: &Second, random: &mut Random, caller: &mut Caller) {
+    let (row, length) = some_burst(second, random);
+    let (start, rest) = match random.below(4) {
+        0 => row.split_at(random.below(row.len() + 1)),
+        _ => (&[][..], &row[..]),
+    };
+    let behind = random.bytes(LONGEST);
+    let before = match random.below(4) {
+        0 => Some(state_of(lying_count(random), &row, &behind)),
+        _ if start.is_empty() => None,
+        _ => Some(state_of(start.len() as u32, start, &behind)),
+    };
+    let request = ReadParts {
+        before: before.as_ref(),
+        parts: &cut(rest, random),
+        length,
+    };
+    caller.compare(second, request);
+}
+
+/// Any count, often one near to where counts stop.
+fn lying_count(random: &mut Random) -> u32 {
+    match random.below(2) {
+        0 => (LONGEST - 4 + random.below(9)) as u32,
+        _ => random.below(1 << 32) as u32,
+    }
 }
 
 /// Messages with fill before, between and behind them, some of which lie about their length, then
