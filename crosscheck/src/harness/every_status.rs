@@ -27,7 +27,7 @@ fn read(second: &Second) -> Vec<Answered> {
     read.to_vec()
 }
 
-/// Link 5's burst with one fault each, in document 01's order.
+/// A burst of link 5 with one fault each, in document 01's order, and one of link 7 with bits behind it.
 fn refused(second: &Second) -> Vec<Answered> {
     let good = burst_of(second, second.links.of(5), &[74, 0, 7, 9, 9, 9, 9]);
     let with_non_bit = |place: usize| {
@@ -41,6 +41,7 @@ fn refused(second: &Second) -> Vec<Answered> {
         burst
     };
     let eight: Vec<usize> = (TRAINING..TRAINING + 8).collect();
+    let too_long = [burst_of(second, second.links.of(7), &[]), vec![1; 40]].concat();
     let faults = [
         (good[..HEAD - 1].to_vec(), 32, 2),
         (with_non_bit(HEAD - 1), 32, 4),
@@ -52,6 +53,7 @@ fn refused(second: &Second) -> Vec<Answered> {
         (good.clone(), 31, 3),
         (with_non_bit(good.len() - 1), 32, 4),
         (inverted(&good, &[HEAD, HEAD + 9]), 32, 7),
+        (too_long, 128, 2),
     ];
     let answered = faults.map(|(burst, buffer, refusal)| ((burst, buffer), Err(refusal)));
     answered.to_vec()

@@ -124,7 +124,7 @@ impl Guarded {
     /// The four bytes at this place, as the number that a call is lent.
     pub fn number(&mut self, placed: Placed) -> &mut u32 {
         let bytes = self.buffer(placed, 4).as_mut_ptr();
-        // SAFETY: either place is four bytes from a page's edge at most, so the number is aligned.
+        // SAFETY: the four bytes begin or end a page, so they are aligned, and this room is borrowed.
         unsafe { &mut *bytes.cast() }
     }
 

@@ -4,9 +4,9 @@
 use crate::harness::archive::{self, SlotRead};
 use crate::harness::guarded::{Guarded, Placed, BOTH_PLACES, ROOM};
 use crate::second::parts::{State, LONGEST};
-use std::mem::size_of;
 
-const COUNT: usize = size_of::<u32>();
+/// The bytes of a count.
+const COUNT: usize = 4;
 
 /// The two rooms, and what each of them holds while the states at both places are fresh.
 pub struct LentState {
@@ -39,6 +39,7 @@ impl LentState {
         *bits_at(&mut self.bits, placed) = state.bits;
     }
 
+    /// What the state at this place holds.
     pub fn held(&mut self, placed: Placed) -> State {
         State {
             count: *self.count.number(placed),
@@ -71,7 +72,7 @@ impl LentState {
 
 fn bits_at(room: &mut Guarded, placed: Placed) -> &mut [u8; LONGEST] {
     let buffer = room.buffer(placed, LONGEST);
-    buffer.try_into().expect("the buffer is so long")
+    buffer.try_into().expect("a buffer of this length")
 }
 
 /// A room's content: so many zeros at its start and at its end, and other bytes between.
