@@ -23,6 +23,7 @@ use Rattle.blocks.proofs.WaysOfReading as rb
 use Rattle.slots.specs.Calls.{slotTask}
 use Rattle.slots.proofs.WaysOfReading as rs
 use Rattle.parts.specs.State.{heard}
+use Rattle.parts.proofs.Hearing.{slot-sizes}
 use Rattle.messages.proofs.Stepping.{step-goes, answer-inside, spoilt-exact, finished-exact, found-exact}
 use Rattle.messages.proofs.Tiling.{walks-tile, walks-fill}
 use Rattle.messages.proofs.Walk.{walk-ends, walks-one}
@@ -102,6 +103,8 @@ demand2 = record {
   slots-back = slots.back;
   blocks-full = blocks.full;
   slots-full = slots.full;
+  parts-longest = λ link slot. slot-sizes link slot .1;
+  parts-kept = parts.kept;
   parts-whole = parts.whole;
   parts-cutting = parts.cutting;
   parts-fresh = λ before after old new answer asked. asked .leaves;

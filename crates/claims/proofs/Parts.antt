@@ -1,26 +1,32 @@
 -- What is shown of bursts that come in parts, from the laws of the crate `parts`: they are read as the whole is.
 -- Assumes nothing.
-use mathlib.Core.Path.{_≡_, sym, ap, _∙_}
+use mathlib.Core.Path.{_≡_, sym, _∙_}
 use mathlib.Core.Logic.{_↔_}
 use mathlib.Core.List.{List, []}
-use Prim.Native.Nat.{ℕ, _<_}
+use Prim.Native.Nat.{ℕ, _<_, min}
 use native.Mathlib.Omega.{arith}
 use lib.ListN.{length, take}
 use Rattle.slots.specs.declared.Slot.{Slot}
-use Rattle.slots.specs.Calls.{readSlot}
 use Rattle.parts.specs.State.{longest, stop, State, state, fresh, heard}
-use Rattle.parts.specs.Taking.{joined}
+use Rattle.parts.specs.Taking.{joined, TookAll}
 use Rattle.parts.proofs.Growing.{full}
 use Rattle.parts.proofs.Hearing.{too-long}
-use Rattle.parts.proofs.Holding.{fresh-holds, took-holds, reads-as-whole}
+use Rattle.parts.proofs.Holding.{Holds, fresh-holds, took-holds, reads-as-whole}
 use Rattle.claims.specs.Calls.{ReadSlot, TookPart, ReadParts, CameInParts}
 use Rattle.claims.proofs.Endings.{determined}
 use Rattle.claims.proofs.Slots as slots
 
+-- what the state holds once the parts are taken
+held : (parts : List (List ℕ)) (after : State) → TookAll parts fresh after → Holds (joined parts) after
+held parts after took = took-holds parts [] fresh after fresh-holds took
+
+pub kept : (parts : List (List ℕ)) (after : State) → TookAll parts fresh after
+    → (after .count ≡ min (length (joined parts)) stop) × (take (after .count) (after .bits) ≡ take longest (joined parts))
+kept parts after took = let h = held parts after took in (h .number, sym (h .front))
+
 pub whole : (burst old new : List ℕ) (answer : Slot) → CameInParts burst old new answer → ReadSlot burst old new answer
 whole burst old new answer c =
-    let held = took-holds (c .parts) [] fresh (c .before) fresh-holds (c .took) in
-    rw (← c .cut, ← reads-as-whole (joined (c .parts)) (c .before) held (length old)) (c .asked .reads)
+    rw (← c .cut, ← reads-as-whole (joined (c .parts)) (c .before) (held (c .parts) (c .before) (c .took)) (length old)) (c .asked .reads)
 
 pub cutting : (burst old old' new new' : List ℕ) (answer answer' : Slot) → length old ≡ length old' → CameInParts burst old new answer → CameInParts burst old' new' answer'
     → (answer ≡ answer') × (take (answer .count) new ≡ take (answer .count) new')

@@ -3,7 +3,7 @@ use mathlib.Core.Path.{_≡_}
 use mathlib.Core.Logic.{_↔_}
 use mathlib.Core.Bool.{Bool, true, false}
 use mathlib.Core.List.{List, [], _∷_, _++_, map}
-use Prim.Native.Nat.{ℕ, _+_, _*_, _<_, _≤_}
+use Prim.Native.Nat.{ℕ, _+_, _*_, _<_, _≤_, min}
 use lib.ListN.{length, getD, take, drop}
 use Rattle.answers.specs.declared.Written.{Written}
 use Rattle.answers.specs.Numbers.{done, noWord, noBlock, brokenMessage, brokenFill}
@@ -27,6 +27,7 @@ use Rattle.slots.specs.declared.Slot.{Slot}
 use Rattle.slots.specs.Burst.{trainingPart, wordPart, blockPart, isSlotLink, burstLength, burstOf}
 use Rattle.slots.specs.Near.{Near as NearBurst}
 use Rattle.parts.specs.State.{longest, stop, State, state, fresh}
+use Rattle.parts.specs.Taking.{joined, TookAll}
 use Rattle.messages.specs.declared.Step.{Step}
 use Rattle.messages.specs.Places.{byteAt, PassedOver, Behind, NoneLeft, Spoilt, Begins, Whole}
 use Rattle.messages.specs.Step.{finished, message, refused as stepRefused}
@@ -138,7 +139,11 @@ pub record Demand2 : Type 0 where
   -- zeros at a datagram's end are kept: a reader answers all the bytes that the link holds
   pub blocks-full : (link : ℕ) (bits old new : List ℕ) (answer : Block) → ReadBlock link bits old new answer → answer .status ≡ done → answer .count ≡ bytesHeld (rowOf link)
   pub slots-full : (burst old new : List ℕ) (answer : Slot) → ReadSlot burst old new answer → answer .status ≡ done → answer .count ≡ bytesHeld (rowOf (answer .link))
-  -- document 02, K2: "Asking gives exactly what reading the whole would give, in the same order of refusals, for every way of cutting",
+  -- document 02, K2: "The longest burst is 1,504 bits; of a longer one the first 1,504 are kept, and the count stops at 1,505."
+  pub parts-longest : (link : ℕ) → isSlotLink link ≡ true → burstLength link ≤ longest
+  pub parts-kept : (parts : List (List ℕ)) (after : State) → TookAll parts fresh after
+      → (after .count ≡ min (length (joined parts)) stop) × (take (after .count) (after .bits) ≡ take longest (joined parts))
+  -- "Asking gives exactly what reading the whole would give, in the same order of refusals, for every way of cutting",
   -- of bursts longer than the longest too
   pub parts-whole : (burst old new : List ℕ) (answer : Slot) → CameInParts burst old new answer → ReadSlot burst old new answer
   pub parts-cutting : (burst old old' new new' : List ℕ) (answer answer' : Slot) → length old ≡ length old' → CameInParts burst old new answer → CameInParts burst old' new' answer'

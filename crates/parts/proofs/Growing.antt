@@ -1,14 +1,14 @@
 -- What a part makes of a state: nothing where it is full, its front where it is too long, and else all of it.
 -- Assumes nothing.
 use mathlib.Core.Path.{_≡_, refl, sym}
-use mathlib.Core.List.{List, []}
-use Prim.Native.Nat.{ℕ, _+_, _-_, _≤_, _<_, min}
+use mathlib.Core.List.{List}
+use Prim.Native.Nat.{ℕ, _+_, _-_, _≤_, _<_}
 use native.Mathlib.Omega.{arith}
 use lib.ListN.{length, take}
 use lib.Seq.{take-all}
 use Rattle.lists.specs.Over.{over}
 use Rattle.lists.proofs.Over.{over-nil}
-use Rattle.parts.specs.State.{longest, stop, State, state, taken}
+use Rattle.parts.specs.State.{longest, stop, state, taken}
 
 same : {m n : ℕ} {a b : List ℕ} → m ≡ n → a ≡ b → state m a ≡ state n b
 same e f = rw (e, f)

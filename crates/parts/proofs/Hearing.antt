@@ -3,20 +3,20 @@
 use mathlib.Core.Path.{_≡_, refl, sym, ap, _∙_}
 use mathlib.Core.Bool.{Bool, true, _&&_}
 use mathlib.Core.List.{List, [], _∷_, _++_}
-use Prim.Native.Nat.{ℕ, _+_, _≤_, _<_}
+use Prim.Native.Nat.{ℕ, _≤_, _<_}
 use native.Mathlib.Omega.{arith}
 use lib.Dec.{ltb, leb}
-use lib.ListN.{length, take, drop, length-append, length-drop}
+use lib.ListN.{length, take, length-append, length-drop}
 use lib.Seq.{take-all, take-append-le, take-take, length-take-le}
 use borrow.Author.Tests.{ltb-true, leb-true}
 use Rattle.lists.proofs.Tests.{both-true}
 use Rattle.links.specs.Patterns.{patterns, tails, clocksIn, flagsAt, total}
 use Rattle.links.specs.Rows.{rows, placeIn, rowOf}
 use Rattle.links.specs.Sizes.{passedOn, tailBits, imageLength}
-use Rattle.slots.specs.Burst.{headLength, headPart, blockPart, isSlotLink, burstLength}
+use Rattle.slots.specs.Burst.{headLength, headPart, isSlotLink, burstLength}
 use Rattle.slots.specs.Calls.{readSlot}
 use Rattle.slots.proofs.Links.{each}
-use Rattle.parts.specs.State.{longest, stop, state, heard}
+use Rattle.parts.specs.State.{longest, state, heard}
 use Rattle.parts.proofs.Lengths.{Off, off-alike}
 
 pub short : (count : ℕ) (bits : List ℕ) → count ≤ length bits → heard (state count bits) ≡ take count bits
@@ -35,7 +35,7 @@ all-sized : (sized 5 ≡ true) × (sized 6 ≡ true) × (sized 7 ≡ true)
 unfolding rows placeIn rowOf patterns tails clocksIn flagsAt total passedOn tailBits imageLength
 all-sized = (refl, refl, refl)
 
-slot-sizes : (link : ℕ) → isSlotLink link ≡ true → (0 < imageLength (rowOf link)) × (burstLength link ≤ longest)
+pub slot-sizes : (link : ℕ) → isSlotLink link ≡ true → (0 < imageLength (rowOf link)) × (burstLength link ≤ longest)
 slot-sizes link h =
     let both = both-true _ _ (each sized (all-sized .0) (all-sized .1) (all-sized .2) link h) in
     (ltb-true 0 _ (both .0), leb-true (burstLength link) longest (both .1))

@@ -6,7 +6,7 @@ use native.Mathlib.Omega.{arith}
 use lib.ListN.{length}
 use lib.Seq.{length-take-le}
 use borrow.Author.Needs.{needs}
-use Rattle.parts.specs.State.{longest, stop, State, state}
+use Rattle.parts.specs.State.{longest, stop, state}
 use Rattle.parts.proofs.Growing.{full, cut, whole}
 use Rattle.parts.proofs.keep.Statement.{statement}
 use Rattle.parts.proofs.keep.Tie as tie
