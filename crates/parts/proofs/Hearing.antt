@@ -46,7 +46,7 @@ head-off bits h =
     let size = length-take-le headLength bits h in
     record { long = omega (arith, size); none = λ link slot e. omega (arith, e, size, length-drop headLength (headPart bits), slot-sizes link slot .0) }
 
-pub long-off : (burst : List ℕ) → longest < length burst → Off burst
+long-off : (burst : List ℕ) → longest < length burst → Off burst
 long-off burst h = record { long = omega arith; none = λ link slot e. omega (arith, e, length-drop headLength burst, slot-sizes link slot .1) }
 
 -- what is too long reads as its head alone

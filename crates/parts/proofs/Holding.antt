@@ -16,8 +16,7 @@ use Rattle.slots.specs.Calls.{readSlot}
 use Rattle.parts.specs.State.{longest, stop, State, state, blank, fresh, taken, heard}
 use Rattle.parts.specs.Taking.{joined, TookAll}
 use Rattle.parts.proofs.Growing.{full, cut, whole}
-use Rattle.parts.proofs.Hearing.{short, too-long, long-off}
-use Rattle.parts.proofs.Lengths.{off-alike}
+use Rattle.parts.proofs.Hearing.{short, head-alone, heard-long}
 
 -- what came, as a state holds it
 pub record Holds (came : List ℕ) (now : State) : Type 0 where
@@ -106,10 +105,10 @@ module _ (came : List ℕ) (now : State) (h : Holds came now) (room : ℕ) where
   reads-long l =
       let n : now .count ≡ stop = omega (arith, h .number) in
       let kept : take longest came ≡ now .bits = h .front ∙ take-all (now .count) (now .bits) (omega (arith, n, h .long)) in
-      let whole = too-long (now .count) (now .bits) (h .long) (omega (arith, n)) in
-      let size : length (now .bits ++ 0 ∷ []) ≡ stop = length-append (now .bits) (0 ∷ []) ∙ omega (arith, h .long) in
-      let same : headPart (now .bits ++ 0 ∷ []) ≡ headPart came = take-append-le headLength (now .bits) (0 ∷ []) (omega (arith, h .long)) ∙ ap headPart (sym kept) ∙ take-take headLength longest came (omega arith) in
-      ap (λ (burst : List ℕ). readSlot burst room) whole ∙ off-alike (now .bits ++ 0 ∷ []) came same (long-off _ (omega (arith, size))) (long-off came l) room
+      let head : headPart (now .bits) ≡ headPart came = ap headPart (sym kept) ∙ take-take headLength longest came (omega arith) in
+      heard-long (now .count) (now .bits) (h .long) (omega (arith, n)) room
+      ∙ ap (λ (burst : List ℕ). readSlot burst room) head
+      ∙ sym (head-alone came l room)
 
   pub reads-as-whole : readSlot (heard now) room ≡ readSlot came room
   reads-as-whole = decided (ltb longest (length came)) refl
