@@ -8,8 +8,8 @@ use native.Mathlib.Omega.{arith}
 use lib.Dec.{ltb, ltb→lt, lit<, lit≤}
 use lib.ListN.{length, getD, replicate, length-map, length-append}
 use lib.Seq.{take-all, take-at}
-use Rattle.answers.specs.Numbers.{wrongLength, noWord}
-use Rattle.answers.specs.Outcome.{refusal}
+use Rattle.answers.specs.Numbers.{done, wrongLength, noWord}
+use Rattle.answers.specs.Outcome.{Outcome, refusal}
 use Rattle.answers.proofs.Task.{write-long}
 use Rattle.lists.specs.Every.{every}
 use Rattle.lists.specs.Over.{over}
@@ -18,23 +18,29 @@ use Rattle.lists.proofs.Over.{over-all}
 use Rattle.lists.proofs.Parts.{map-take}
 use Rattle.bits.specs.Bits.{byte}
 use Rattle.bits.specs.Row.{highFirst, differences}
+use Rattle.bits.proofs.Differences.{differences-self}
+use Rattle.blocks.specs.Block.{blockOf, imageOf}
 use Rattle.blocks.specs.Calls.{blockTask, writeBlock}
+use Rattle.blocks.proofs.Blocks.{block-valid}
 use Rattle.blocks.proofs.Calls.{read-length}
 use Rattle.links.specs.Rows.{rows, placeIn, offered, rowOf}
 use Rattle.links.specs.Sizes.{bytesHeld, imageLength}
+use Rattle.links.proofs.Good.{good}
 use Rattle.links.proofs.Table.{image-lengths}
 use Rattle.messages.specs.Step.{zerosAt, messageAt, stepAt, stepMessage}
 use Rattle.slots.specs.Burst.{headLength, headPart, blockPart, isSlotLink, headOf, burstOf}
+use Rattle.slots.specs.declared.Slot.{Slot}
+use Rattle.slots.specs.Near.{Near}
 use Rattle.slots.specs.Head.{readHead}
 use Rattle.slots.specs.Calls.{both, readSlot, refused as slot-refused}
-use Rattle.slots.proofs.Answered.{rest-joined}
+use Rattle.slots.proofs.Answered.{rest-joined, burst-answered}
 use Rattle.slots.proofs.HeadLaid.{length-head}
 use Rattle.slots.proofs.Links.{slot-offered}
 use Rattle.slots.proofs.Parts.{near-head, block-of}
 use Rattle.slots.proofs.Writing.{long-burst}
 use Rattle.parts.specs.State.{longest, stop, state, blank, fresh, taken, heard}
 use Rattle.parts.proofs.Growing.{cut}
-use Rattle.parts.proofs.Hearing.{short, heard-long}
+use Rattle.parts.proofs.Hearing.{longest-7, short, heard-long}
 use Rattle.parts.proofs.Holding.{fresh-holds}
 use Rattle.turbo.proofs.Cases.{p7-y0, p7-y1, p8, p9}
 use Rattle.words.specs.Word.{generator, withRows, wordOf, wordBits}
@@ -100,9 +106,13 @@ module _ (datagram : List ℕ) (fits : length datagram ≤ 128) where
   abbrev burst : List ℕ
   burst = map byte (burstOf 7 datagram)
 
+  fits-7 : length datagram ≤ bytesHeld (rowOf 7)
+  unfolding rows placeIn rowOf
+  fits-7 = fits
+
   long-7 : length burst ≡ longest
-  unfolding isSlotLink rows placeIn rowOf
-  long-7 = long-burst 7 refl datagram fits ∙ omega (arith, images .2)
+  unfolding isSlotLink
+  long-7 = long-burst 7 refl datagram fits-7 ∙ longest-7
 
   kept : (x : ℕ) (more : List ℕ) → taken fresh (burst ++ x ∷ more) ≡ state stop burst
   kept x more =
@@ -111,8 +121,24 @@ module _ (datagram : List ℕ) (fits : length datagram ≤ 128) where
       let laid = ap (λ (p : List ℕ). over 0 p blank) (take-at burst (x ∷ more) longest long-7) ∙ over-all burst blank (long-7 ∙ sym (fresh-holds .long)) in
       sym (cut 0 blank came (omega arith) size) ∙ ap (λ (bits : List ℕ). state stop bits) laid
 
-  good : heard (state longest burst) ≡ burst
-  good = short longest burst (omega (arith, long-7)) ∙ take-all longest burst (omega (arith, long-7))
+  -- with a count of 1,504 it is a good one
+  near-7 : Near (burstOf 7 datagram) 7 0 (blockOf (rowOf 7) datagram)
+  unfolding isSlotLink burstOf
+  near-7 =
+      let rest = imageOf (rowOf 7) (blockOf (rowOf 7) datagram) in
+      let same = ap (differences rest) (block-of 7 rest) ∙ differences-self rest in
+      record {
+        head = near-head 7 rest refl;
+        size = sym (length-map (headOf 7 ++ rest) byte) ∙ long-7 ∙ sym longest-7;
+        block = record { right = block-valid (rowOf 7) (good 7 (slot-offered 7 refl)) datagram fits-7; within = omega (arith, same) };
+      }
+
+  read-7 : (room : ℕ) → 128 ≤ room → readSlot (heard (state longest burst)) room .answer .status ≡ done
+  unfolding rows placeIn rowOf
+  read-7 room enough =
+      let whole = short longest burst (omega (arith, long-7)) ∙ take-all longest burst (omega (arith, long-7)) in
+      ap (λ (came : List ℕ). readSlot came room .answer .status) whole
+      ∙ ap (λ (outcome : Outcome Slot). outcome .answer .status) (burst-answered (burstOf 7 datagram) 7 0 _ near-7 room enough)
 
   -- what is longer reads as the head of 7 alone
   head-7 : headPart burst ≡ map byte (headOf 7 ++ [])
@@ -129,4 +155,4 @@ module _ (datagram : List ℕ) (fits : length datagram ≤ 128) where
 
 pub cases : Cases
 unfolding generator withRows wordOf every zerosAt messageAt stepAt stepMessage
-cases = record { P1 = refl; P2 = refl; P3 = refl; P4 = seven-wrong; P5 = eight-wrong; P6 = nine-wrong; P7 = (p7-y0, p7-y1); P8 = p8; P9 = p9; P10 = (held-by-12, too-long); P11 = (refl, refl, refl); P12 = (refl, refl, refl); K1-spoilt = (refl, refl, refl); K1-ends = (refl, refl, refl, refl); K1-passed = (refl, refl, refl); K2-empty = empty; K2-counts = counts; K2-raw = raw; K2-longer = λ datagram fits x more. (kept datagram fits x more, good datagram fits, longer datagram fits); short-7 = λ rest room size. other-7 rest room (λ e. omega (arith, size, e)); burst-lengths = rw (images .0, images .1, images .2) }
+cases = record { P1 = refl; P2 = refl; P3 = refl; P4 = seven-wrong; P5 = eight-wrong; P6 = nine-wrong; P7 = (p7-y0, p7-y1); P8 = p8; P9 = p9; P10 = (held-by-12, too-long); P11 = (refl, refl, refl); P12 = (refl, refl, refl); K1-spoilt = (refl, refl, refl); K1-ends = (refl, refl, refl, refl); K1-passed = (refl, refl, refl); K2-empty = empty; K2-counts = counts; K2-raw = raw; K2-longer = λ datagram fits x more. (kept datagram fits x more, longer datagram fits, read-7 datagram fits); short-7 = λ rest room size. other-7 rest room (λ e. omega (arith, size, e)); burst-lengths = rw (images .0, images .1, images .2) }

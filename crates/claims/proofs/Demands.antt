@@ -23,7 +23,7 @@ use Rattle.blocks.proofs.WaysOfReading as rb
 use Rattle.slots.specs.Calls.{slotTask}
 use Rattle.slots.proofs.WaysOfReading as rs
 use Rattle.parts.specs.State.{heard}
-use Rattle.parts.proofs.Hearing.{slot-sizes}
+use Rattle.parts.proofs.Hearing.{slot-sizes, longest-7}
 use Rattle.messages.proofs.Stepping.{step-goes, answer-inside, spoilt-exact, finished-exact, found-exact}
 use Rattle.messages.proofs.Tiling.{walks-tile, walks-fill}
 use Rattle.messages.proofs.Walk.{walk-ends, walks-one}
@@ -103,15 +103,13 @@ demand2 = record {
   slots-back = slots.back;
   blocks-full = blocks.full;
   slots-full = slots.full;
-  parts-longest = λ link slot. slot-sizes link slot .1;
+  parts-longest = (λ link slot. slot-sizes link slot .1, longest-7);
   parts-kept = parts.kept;
   parts-whole = parts.whole;
   parts-cutting = parts.cutting;
   parts-fresh = λ before after old new answer asked. asked .leaves;
   parts-forged = parts.forged;
   parts-forged-on = parts.forged-on;
-  parts-back = λ link datagram old new written bytes wr z old' new' answer room came.
-      slots.back link datagram old new written bytes wr z old' new' answer room (parts.whole _ old' new' answer came);
   step-inside = λ datagram position answer e. rw e (answer-inside datagram position);
   message-found = λ datagram position answer e. rw e (found-exact datagram position);
   step-finished = λ datagram position answer e. rw e (finished-exact datagram position);
@@ -147,7 +145,7 @@ demand3 = record {
   slot-only-one = slots.only-one;
   slot-answered = λ came link wordWrong u n old new answer room wr. slots.answered came old new answer wr link wordWrong u n room;
   parts-mended = λ link datagram old new written bytes wr z came size trained word block old' new' answer room c.
-      slots.mended link datagram old new written bytes wr z came size trained word block old' new' answer room (parts.whole _ old' new' answer c);
-  parts-exact = λ came old new answer c. slots.exact came old new answer (parts.whole _ old new answer c);
-  parts-answered = λ came link wordWrong u n old new answer room c. slots.answered came old new answer (parts.whole _ old new answer c) link wordWrong u n room;
+      slots.mended link datagram old new written bytes wr z came size trained word block old' new' answer room (parts.read _ old' new' answer c);
+  parts-exact = λ came old new answer c. slots.exact came old new answer (parts.read _ old new answer c);
+  parts-answered = λ came link wordWrong u n old new answer room c. slots.answered came old new answer (parts.read _ old new answer c) link wordWrong u n room;
 }

@@ -22,9 +22,9 @@ use Rattle.blocks.specs.Calls.{blockTask, writeBlock, readBlock}
 use Rattle.slots.specs.declared.Slot.{Slot}
 use Rattle.slots.specs.Burst.{training, headLength, headPart, trainingPart, wordPart, blockPart, isSlotLink}
 use Rattle.slots.specs.Calls.{slotTask, writeSlot, readSlot}
-use Rattle.parts.specs.State.{State, fresh, taken, heard}
+use Rattle.parts.specs.State.{State, fresh, heard}
 use Rattle.parts.specs.Taking.{joined, TookAll}
-use Rattle.parts.specs.Asking.{Asked}
+use Rattle.parts.specs.Asking.{ReadParts}
 use Rattle.messages.specs.declared.Step.{Step}
 use Rattle.messages.specs.Places.{Behind, Spoilt, BrokenAt}
 use Rattle.messages.specs.Step.{stepMessage}
@@ -50,13 +50,6 @@ WroteSlot link datagram old new answer = Wrote (writeSlot link datagram (length 
 
 abbrev pub ReadSlot : List ℕ → List ℕ → List ℕ → Slot → Type 0
 ReadSlot burst old new answer = Wrote (readSlot burst (length old)) old new answer
-
--- by parts, the state being the caller's: what a part makes of it, and what it is asked and how it is left
-abbrev pub TookPart : List ℕ → State → State → Type 0
-TookPart part before after = after ≡ taken before part
-
-abbrev pub ReadParts : State → State → List ℕ → List ℕ → Slot → Type 0
-ReadParts before after old new answer = Asked before after old new answer
 
 -- a burst comes in parts: from a fresh state on they are taken one after another, and then the state is asked
 pub record CameInParts (burst old new : List ℕ) (answer : Slot) : Type 0 where

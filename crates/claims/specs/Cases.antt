@@ -4,7 +4,7 @@ use mathlib.Core.Bool.{Bool, true, false, not}
 use mathlib.Core.List.{List, [], _∷_, _++_, map}
 use Prim.Native.Nat.{ℕ, zero, suc, _≤_}
 use lib.ListN.{length, take, drop, replicate}
-use Rattle.answers.specs.Numbers.{wrongLength, noWord, pastEnd, brokenMessage, brokenFill}
+use Rattle.answers.specs.Numbers.{done, wrongLength, noWord, pastEnd, brokenMessage, brokenFill}
 use Rattle.answers.specs.Outcome.{refusal}
 use Rattle.bits.specs.Bits.{byte}
 use Rattle.blocks.specs.Calls.{writeBlock}
@@ -76,7 +76,8 @@ pub record Cases : Type 0 where
   -- a burst of link 7 with more behind it is refused with 2, since the count goes one further than the longest burst: with a count of 1,504
   -- the same bytes would be a good burst
   pub K2-longer : (datagram : List ℕ) → length datagram ≤ 128 → (byte-behind : ℕ) (more : List ℕ) → let burst = map byte (burstOf 7 datagram) in
-      (taken fresh (burst ++ byte-behind ∷ more) ≡ state stop burst) × (heard (state 1504 burst) ≡ burst) × ((room : ℕ) → readSlot (heard (state stop burst)) room ≡ slot-refused wrongLength)
+      (taken fresh (burst ++ byte-behind ∷ more) ≡ state stop burst) × ((room : ℕ) → readSlot (heard (state stop burst)) room ≡ slot-refused wrongLength)
+      × ((room : ℕ) → 128 ≤ room → readSlot (heard (state 1504 burst)) room .answer .status ≡ done)
   -- a slot burst of 480 bits under link 7's word
   pub short-7 : (rest : List Bool) (room : ℕ) → length rest ≡ 394 → readSlot (map byte (headOf 7 ++ rest)) room ≡ slot-refused wrongLength
   -- the lengths of slot bursts

@@ -27,7 +27,8 @@ use Rattle.slots.specs.declared.Slot.{Slot}
 use Rattle.slots.specs.Burst.{trainingPart, wordPart, blockPart, isSlotLink, burstLength, burstOf}
 use Rattle.slots.specs.Near.{Near as NearBurst}
 use Rattle.parts.specs.State.{longest, stop, State, state, fresh}
-use Rattle.parts.specs.Taking.{joined, TookAll}
+use Rattle.parts.specs.Taking.{TookPart, joined, TookAll}
+use Rattle.parts.specs.Asking.{ReadParts}
 use Rattle.messages.specs.declared.Step.{Step}
 use Rattle.messages.specs.Places.{byteAt, PassedOver, Behind, NoneLeft, Spoilt, Begins, Whole}
 use Rattle.messages.specs.Step.{finished, message, refused as stepRefused}
@@ -35,7 +36,7 @@ use Rattle.messages.specs.Tiling.{Tiles, Tiled, bytesOf}
 use Rattle.messages.specs.Walk.{Walks, walk}
 use Rattle.printer_text.specs.declared.Text.{Text}
 use Rattle.claims.specs.Lines.{Lines, Given}
-use Rattle.claims.specs.Calls.{WroteWord, ReadWord, WroteBlock, ReadBlock, WroteSlot, ReadSlot, TookPart, ReadParts, CameInParts, Stepped, Printed, writeWordLines, readWordLines, writeBlockLines, readBlockLines, writeSlotLines, readSlotLines, readPartsLines, stepLines, BlockAnswer, SlotAnswer}
+use Rattle.claims.specs.Calls.{WroteWord, ReadWord, WroteBlock, ReadBlock, WroteSlot, ReadSlot, CameInParts, Stepped, Printed, writeWordLines, readWordLines, writeBlockLines, readBlockLines, writeSlotLines, readSlotLines, readPartsLines, stepLines, BlockAnswer, SlotAnswer}
 
 -- "Every call ends and touches nothing but its own buffers, for all input, lying input included." There is no theorem of this: the
 -- checker accepts a function only if it ends for all input and stays inside what it is lent, and no public call has a `requires`.
@@ -60,7 +61,7 @@ pub record Demand1 : Type 1 where
   pub write-slot-refused : (link : ℕ) (datagram old new : List ℕ) (answer : Written) → WroteSlot link datagram old new answer → (answer .status ≡ done → ⊥) → (answer .count ≡ 0) × (new ≡ old)
   pub read-slot-refused : (burst old new : List ℕ) (answer : Slot) → ReadSlot burst old new answer → (answer .status ≡ done → ⊥)
       → (answer .count ≡ 0) × (answer .wrong ≡ 0) × (answer .link ≡ 0) × (answer .«word_wrong» ≡ 0) × (new ≡ old)
-  -- by parts too; the state is the caller's, and none of these bytes
+  -- by parts too: "the state isn't among demand 1's lent bytes"
   pub read-parts-refused : (before after : State) (old new : List ℕ) (answer : Slot) → ReadParts before after old new answer → (answer .status ≡ done → ⊥)
       → (answer .count ≡ 0) × (answer .wrong ≡ 0) × (answer .link ≡ 0) × (answer .«word_wrong» ≡ 0) × (new ≡ old)
   pub step-refused : (datagram : List ℕ) (position : ℕ) (answer : Step) → Stepped datagram position answer → (answer .status ≡ done → ⊥) → (answer .start ≡ 0) × (answer .length ≡ 0)
@@ -140,24 +141,20 @@ pub record Demand2 : Type 0 where
   pub blocks-full : (link : ℕ) (bits old new : List ℕ) (answer : Block) → ReadBlock link bits old new answer → answer .status ≡ done → answer .count ≡ bytesHeld (rowOf link)
   pub slots-full : (burst old new : List ℕ) (answer : Slot) → ReadSlot burst old new answer → answer .status ≡ done → answer .count ≡ bytesHeld (rowOf (answer .link))
   -- document 02, K2: "The longest burst is 1,504 bits; of a longer one the first 1,504 are kept, and the count stops at 1,505."
-  pub parts-longest : (link : ℕ) → isSlotLink link ≡ true → burstLength link ≤ longest
+  pub parts-longest : ((link : ℕ) → isSlotLink link ≡ true → burstLength link ≤ longest) × (burstLength 7 ≡ longest)
   pub parts-kept : (parts : List (List ℕ)) (after : State) → TookAll parts fresh after
       → (after .count ≡ min (length (joined parts)) stop) × (take (after .count) (after .bits) ≡ take longest (joined parts))
-  -- "Asking gives exactly what reading the whole would give, in the same order of refusals, for every way of cutting",
-  -- of bursts longer than the longest too
-  pub parts-whole : (burst old new : List ℕ) (answer : Slot) → CameInParts burst old new answer → ReadSlot burst old new answer
+  -- "Asking gives exactly what reading the whole would give, in the same order of refusals, for every way of cutting, and leaves a fresh
+  -- state, after a refusal too", of bursts longer than the longest too
+  pub parts-whole : (parts : List (List ℕ)) (before : State) → TookAll parts fresh before → (old new : List ℕ) (answer : Slot)
+      → ReadParts before fresh old new answer ↔ ReadSlot (joined parts) old new answer
   pub parts-cutting : (burst old old' new new' : List ℕ) (answer answer' : Slot) → length old ≡ length old' → CameInParts burst old new answer → CameInParts burst old' new' answer'
       → (answer ≡ answer') × (take (answer .count) new ≡ take (answer .count) new')
-  -- "and leaves a fresh state, after a refusal too"
   pub parts-fresh : (before after : State) (old new : List ℕ) (answer : Slot) → ReadParts before after old new answer → after ≡ fresh
   -- "A state whose count lies above 1,505 answers as one of 1,505 does", whatever bytes are kept; and a part makes it one
   pub parts-forged : (count : ℕ) (bits : List ℕ) → length bits ≡ longest → stop < count → (after : State) (old new : List ℕ) (answer : Slot)
       → ReadParts (state count bits) after old new answer ↔ ReadParts (state stop bits) after old new answer
   pub parts-forged-on : (count : ℕ) (bits part : List ℕ) → stop < count → (after : State) → TookPart part (state count bits) after → after ≡ state stop bits
-  -- what we write we read back by parts
-  pub parts-back : (link : ℕ) (datagram old new : List ℕ) (written : Written) → allBytes datagram ≡ true → WroteSlot link datagram old new written → written .status ≡ done
-      → (old' new' : List ℕ) (answer : Slot) → bytesHeld (rowOf link) ≤ length old' → CameInParts (take (written .count) new) old' new' answer
-      → SlotAnswer (zeroFilled (rowOf link) datagram) 0 link 0 old' new' answer
   -- "Messages are divided as document 01 says", with document 02's K1. Whatever a step answers lies inside the datagram
   pub step-inside : (datagram : List ℕ) (position : ℕ) (answer : Step) → Stepped datagram position answer → answer .start + answer .length ≤ length datagram
   -- a message is answered exactly where, behind 81s alone, one begins that is as long as it declares, at least 7, and ends inside the datagram

@@ -9,8 +9,9 @@ ghost use lib.ListN.{length};
 ghost use Rattle.answers.specs.Outcome.{Wrote};
 ghost use Rattle.messages.specs.Step.{stepMessage};
 ghost use Rattle.blocks.specs.Calls.{writeBlock, readBlock};
-ghost use Rattle.parts.specs.State.{state, taken};
-ghost use Rattle.parts.specs.Asking.{Asked};
+ghost use Rattle.parts.specs.State.{state};
+ghost use Rattle.parts.specs.Taking.{TookPart};
+ghost use Rattle.parts.specs.Asking.{ReadParts};
 ghost use Rattle.slots.specs.Calls.{writeSlot, readSlot};
 ghost use Rattle.words.specs.Calls.{writeWord, readWord};
 
@@ -65,7 +66,7 @@ pub extern "C" fn decklewren_read_slot(burst: &[u8], out: &mut [u8]) -> Slot
 
 #[no_mangle]
 pub extern "C" fn decklewren_take_part(count: &mut u32, bits: &mut [u8; 1504], part: &[u8])
-    ensures { λ _. ⌜ state (now (count .exit)) (now (bits .exit)) ≡ taken (state (now (count .entry)) (now (bits .entry))) (now (part .entry)) ⌝ }
+    ensures { λ _. ⌜ TookPart (now (part .entry)) (state (now (count .entry)) (now (bits .entry))) (state (now (count .exit)) (now (bits .exit))) ⌝ }
 {
     parts::take(count, bits, part);
 }
@@ -76,7 +77,7 @@ pub extern "C" fn decklewren_read_parts(
     bits: &mut [u8; 1504],
     out: &mut [u8],
 ) -> Slot
-    ensures { λ r. ⌜ Asked (state (now (count .entry)) (now (bits .entry))) (state (now (count .exit)) (now (bits .exit))) (now (out .entry)) (now (out .exit)) r ⌝ }
+    ensures { λ r. ⌜ ReadParts (state (now (count .entry)) (now (bits .entry))) (state (now (count .exit)) (now (bits .exit))) (now (out .entry)) (now (out .exit)) r ⌝ }
 {
     parts::read(count, bits, out)
 }

@@ -35,6 +35,10 @@ all-sized : (sized 5 ≡ true) × (sized 6 ≡ true) × (sized 7 ≡ true)
 unfolding rows placeIn rowOf patterns tails clocksIn flagsAt total passedOn tailBits imageLength
 all-sized = (refl, refl, refl)
 
+pub longest-7 : burstLength 7 ≡ longest
+unfolding rows placeIn rowOf patterns tails clocksIn flagsAt total passedOn tailBits imageLength
+longest-7 = refl
+
 pub slot-sizes : (link : ℕ) → isSlotLink link ≡ true → (0 < imageLength (rowOf link)) × (burstLength link ≤ longest)
 slot-sizes link h =
     let both = both-true _ _ (each sized (all-sized .0) (all-sized .1) (all-sized .2) link h) in

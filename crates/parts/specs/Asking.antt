@@ -9,6 +9,6 @@ use Rattle.slots.specs.Calls.{readSlot}
 use Rattle.parts.specs.State.{State, fresh, heard}
 
 -- what was heard is read as a slot burst into the lent buffer, and the state is fresh afterwards
-pub record Asked (before after : State) (old new : List ℕ) (answer : Slot) : Type 0 where
+pub record ReadParts (before after : State) (old new : List ℕ) (answer : Slot) : Type 0 where
   pub reads : Wrote (readSlot (heard before) (length old)) old new answer
   pub leaves : after ≡ fresh

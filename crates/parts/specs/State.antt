@@ -19,10 +19,11 @@ pub record State : Type 0 where
 abbrev pub state : ℕ → List ℕ → State
 state count bits = record { count = count; bits = bits }
 
--- nothing came, and no byte of an earlier burst is left
+-- no byte of a burst
 unfoldable pub blank : List ℕ
 blank = replicate longest 0
 
+-- nothing came, and no byte of an earlier burst is left
 abbrev pub fresh : State
 fresh = state 0 blank
 

@@ -6,7 +6,8 @@ ghost use lib.ListN.{length};
 ghost use Rattle.answers.specs.Outcome.{Wrote};
 ghost use Rattle.slots.specs.Calls.{readSlot};
 ghost use Rattle.parts.specs.State.{longest, state, blank, taken, heard};
-ghost use Rattle.parts.specs.Asking.{Asked};
+ghost use Rattle.parts.specs.Taking.{TookPart};
+ghost use Rattle.parts.specs.Asking.{ReadParts};
 
 // The bits of the longest burst, and the count at which counting stops.
 const LONGEST: usize = 1504;
@@ -33,12 +34,13 @@ fn keep(count: u32, kept: &mut [u8], part: &[u8]) -> u32
 
 // Takes a part of a burst.
 pub fn take(count: &mut u32, bits: &mut [u8; LONGEST], part: &[u8])
-    ensures { λ _. ⌜ state (now (count .exit)) (now (bits .exit)) ≡ taken (state (now (count .entry)) (now (bits .entry))) (now (part .entry)) ⌝ }
+    ensures { λ _. ⌜ TookPart (now (part .entry)) (state (now (count .entry)) (now (bits .entry))) (state (now (count .exit)) (now (bits .exit))) ⌝ }
 {
     *count = keep(*count, bits, part);
 }
 
-// Reads what was heard. A burst that is too long is refused by its head, or else with 2; so is its head alone.
+// Reads what was heard. A burst that is too long is refused by its head, or else with 2. Its 86 bits alone are refused alike, so only
+// they are read.
 fn read_heard(count: u32, kept: &[u8], out: &mut [u8]) -> Slot
     requires { ⌜ length (now kept) ≡ longest ⌝ }
     ensures { λ r. ⌜ Wrote (readSlot (heard (state count (now (kept .entry)))) (length (now (out .entry)))) (now (out .entry)) (now (out .exit)) r ⌝ }
@@ -59,7 +61,7 @@ fn blank() -> [u8; LONGEST]
 
 // Reads the burst that came, and lays its datagram at the buffer's start.
 pub fn read(count: &mut u32, bits: &mut [u8; LONGEST], out: &mut [u8]) -> Slot
-    ensures { λ r. ⌜ Asked (state (now (count .entry)) (now (bits .entry))) (state (now (count .exit)) (now (bits .exit))) (now (out .entry)) (now (out .exit)) r ⌝ }
+    ensures { λ r. ⌜ ReadParts (state (now (count .entry)) (now (bits .entry))) (state (now (count .exit)) (now (bits .exit))) (now (out .entry)) (now (out .exit)) r ⌝ }
 {
     let slot = read_heard(*count, bits, out);
     *count = 0;

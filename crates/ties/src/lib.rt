@@ -1,5 +1,6 @@
 // The exported calls, tied to the claims: each function calls one of them by its exported name and ensures the very relation that the
-// theorems of claims speak of, so an export with a weaker contract is refused here. A datagram that is lent is one of bytes.
+// theorems of claims speak of, so an export with a weaker contract is refused here. A datagram that is lent is one of bytes, and the array of
+// a state has 1,504 of them.
 use answers::Written;
 use blocks::Block;
 use messages::Step;
@@ -11,7 +12,9 @@ ghost use mathlib.Core.Bool.{true};
 ghost use lib.ListN.{length};
 ghost use Rattle.bits.specs.Datagram.{allBytes};
 ghost use Rattle.parts.specs.State.{longest, state};
-ghost use Rattle.claims.specs.Calls.{WroteWord, ReadWord, WroteBlock, ReadBlock, WroteSlot, ReadSlot, TookPart, ReadParts, Stepped, Printed};
+ghost use Rattle.parts.specs.Taking.{TookPart};
+ghost use Rattle.parts.specs.Asking.{ReadParts};
+ghost use Rattle.claims.specs.Calls.{WroteWord, ReadWord, WroteBlock, ReadBlock, WroteSlot, ReadSlot, Stepped, Printed};
 
 pub fn write_word(number: u32, out: &mut [u8]) -> Written
     ensures { λ r. ⌜ WroteWord number (now (out .entry)) (now (out .exit)) r ⌝ }
@@ -56,20 +59,15 @@ pub fn take_part(count: &mut u32, bits: &mut [u8; 1504], part: &[u8])
 }
 
 pub fn read_parts(count: &mut u32, bits: &mut [u8; 1504], out: &mut [u8]) -> Slot
-    ensures { λ r. ⌜ ReadParts (state (now (count .entry)) (now (bits .entry))) (state (now (count .exit)) (now (bits .exit))) (now (out .entry)) (now (out .exit)) r ⌝ }
+    ensures { λ r. ⌜ ReadParts (state (now (count .entry)) (now (bits .entry))) (state (now (count .exit)) (now (bits .exit))) (now (out .entry)) (now (out .exit)) r ⌝ ∗ ⌜ length (now (bits .entry)) ≡ longest ⌝ }
 {
+    length_of(bits);
     decklewren::decklewren_read_parts(count, bits, out)
 }
 
+// An array that is lent as a slice shows its length.
 fn length_of(bytes: &[u8]) -> usize {
     bytes.len()
-}
-
-// What is lent as the bytes of a state is as long as the longest burst.
-pub fn kept(bits: &mut [u8; 1504]) -> usize
-    ensures { λ r. ⌜ length (now (bits .entry)) ≡ longest ⌝ }
-{
-    length_of(bits)
 }
 
 pub fn step_message(datagram: &[u8], position: usize) -> Step
