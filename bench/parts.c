@@ -27,11 +27,13 @@ static void ask(uint32_t link, size_t held, int i) {
     asked = decklewren_parts_read(&states[i], out, held);
 }
 
-/* A burst by full parts; what is left over at its end is not taken. */
+/* A burst by parts, the last one shorter where it must be. */
 static void take(uint32_t link, size_t held, int i) {
     (void)held;
     size_t burst = decklewren_burst(link);
-    for (size_t at = 0; at + part <= burst; at += part) decklewren_parts_take(&states[i], filled[i].bits + at, part);
+    for (size_t at = 0; at < burst; at += part) {
+        decklewren_parts_take(&states[i], filled[i].bits + at, part < burst - at ? part : burst - at);
+    }
 }
 
 /* Random datagrams' bursts, which are read whole and by parts with one answer. */
@@ -63,7 +65,7 @@ static void measure_taking(uint32_t link, size_t held, size_t length) {
     medians of = in_turn(link, held, BURSTS, read_whole, take, empty_states);
     printf("take  link %2u, parts of %2u:    ", (unsigned)link, (unsigned)part);
     printf("whole %8.0f ns, parts  %8.0f ns, ratio %.2f, ", of.first, of.second, of.second / of.first);
-    printf("%.1f ns a part\n", of.second / (double)(decklewren_burst(link) / part));
+    printf("%.1f ns a part\n", of.second / (double)((decklewren_burst(link) + part - 1) / part));
 }
 
 static void measure_link(uint32_t link, size_t held) {

@@ -1,42 +1,54 @@
-/* A radio's driver that takes slot bursts by parts (document 02, K2). The interrupt hands over what the FIFO of the radio holds, a few
-   bits, and the main loop asks once a burst has ended. The radio is simulated: it plays a burst of link 6 as it should be, with
-   one bit wrong, too long, and then twice as it should be: the second of these comes into the state that was refused. */
+/* A radio's driver that takes slot bursts by parts (document 02, K2). The interrupt hands over what the radio's FIFO holds, a few bits, and
+   the main loop asks once a burst has ended, while the next one comes already. The radio is simulated. */
 #include "decklewren.h"
 #include <stdio.h>
 #include <string.h>
 
 static decklewren_parts states[2]; /* zero, and so fresh */
 static volatile unsigned filling;  /* the state that the interrupt fills; only the main loop changes it */
+static volatile int ended;         /* whether the burst in that state has ended */
 
-/* The radio's interrupt. */
-static void take_fifo(const uint8_t *fifo, size_t held) { decklewren_parts_take(&states[filling], fifo, held); }
+/* The radio's interrupt: what its FIFO holds, and whether the burst ends with it. */
+static void interrupt(const uint8_t *fifo, size_t held, int last) {
+    decklewren_parts_take(&states[filling], fifo, held);
+    if (last) ended = 1;
+}
 
-/* The main loop, once a burst has ended: what comes now goes into the other state, so that none is changed while it is asked. */
-static decklewren_slot ask(uint8_t *datagram, size_t datagram_len) {
-    decklewren_parts *ended = &states[filling];
+/* The main loop: what comes from now on goes into the other state, so that none is changed while it is asked. */
+static decklewren_parts *take_ended(void) {
+    ended = 0;
     filling = 1 - filling;
-    return decklewren_parts_read(ended, datagram, datagram_len);
+    return &states[1 - filling];
 }
 
-enum { FIFO = 16, BITS = DECKLEWREN_BURST_6, TOO_LONG = 2000 };
+/* What the radio plays: a burst of link 6 as it should be, with one bit wrong, too long, and then as it should be. The last one comes into
+   the state that was refused. */
+enum { FIFO = 16, BITS = DECKLEWREN_BURST_6, TOO_LONG = 2000, WRONG = 500 };
+static const struct {
+    const char *what;
+    size_t length;
+    uint8_t damage;
+} plays[] = {{"good", BITS, 0}, {"one bit wrong", BITS, 1}, {"too long", TOO_LONG, 0}, {"the next", BITS, 0}, {"the one behind it", BITS, 0}};
+enum { PLAYS = sizeof plays / sizeof *plays };
+static uint8_t burst[TOO_LONG];
 
-/* The radio: at each interrupt its FIFO holds another number of bits, from none to all that it can. Answers how many it made. */
-static unsigned play(const uint8_t *burst, size_t length) {
-    unsigned interrupts = 0;
-    for (size_t at = 0, held; at < length; at += held, interrupts++) {
-        held = interrupts * 7 % (FIFO + 1);
-        if (held > length - at) held = length - at;
-        take_fifo(burst + at, held);
-    }
-    return interrupts;
+/* One interrupt of the radio, with another number of bits each time, from none to all that its FIFO can hold. Answers 0 once all is played. */
+static int radio(void) {
+    static size_t play, at, interrupts;
+    if (play == PLAYS) return 0;
+    size_t left = plays[play].length - at, held = interrupts++ * 7 % (FIFO + 1);
+    uint8_t fifo[FIFO];
+    if (held > left) held = left;
+    memcpy(fifo, burst + at, held);
+    if (at <= WRONG && WRONG < at + held) fifo[WRONG - at] ^= plays[play].damage;
+    at = held == left ? 0 : at + held;
+    play += held == left;
+    interrupt(fifo, held, held == left);
+    return 1;
 }
 
-/* One burst through the driver: how it came, what was answered, and the datagram as text. */
-static void show(const char *what, const uint8_t *burst, size_t length) {
-    uint8_t datagram[DECKLEWREN_HELD_7];
-    unsigned interrupts = play(burst, length);
-    decklewren_slot slot = ask(datagram, sizeof datagram);
-    printf("%s, %u bits by %u interrupts: status %u", what, (unsigned)length, interrupts, (unsigned)slot.status);
+static void show(const char *what, decklewren_slot slot, const uint8_t *datagram) {
+    printf("%s: status %u", what, (unsigned)slot.status);
     if (slot.status == DECKLEWREN_DONE) {
         printf(", link %u, %u wrong, \"%.*s\"", (unsigned)slot.link, (unsigned)slot.wrong, (int)slot.count, (const char *)datagram);
     }
@@ -45,14 +57,14 @@ static void show(const char *what, const uint8_t *burst, size_t length) {
 
 int main(void) {
     const char text[] = "ICE 65.1N 24.1E 40CM";
-    uint8_t burst[TOO_LONG] = {0};
+    uint8_t datagram[DECKLEWREN_HELD_7];
+    size_t asked = 0;
     decklewren_write_slot(6, (const uint8_t *)text, strlen(text), burst, sizeof burst);
-    show("good", burst, BITS);
-    burst[500] ^= 1;
-    show("one bit wrong", burst, BITS);
-    burst[500] ^= 1;
-    show("too long", burst, TOO_LONG);
-    show("the next", burst, BITS);
-    show("the one behind it", burst, BITS);
+    while (radio()) {
+        if (!ended) continue;
+        decklewren_parts *state = take_ended();
+        radio(); /* the next burst begins before this one is read */
+        show(plays[asked++].what, decklewren_parts_read(state, datagram, sizeof datagram), datagram);
+    }
     return 0;
 }

@@ -1,5 +1,5 @@
 /* What the header says of the buffers that a caller lends: where a length is 0 the pointer may be NULL, for every call and every
-   pointer, and a buffer may begin at any address. The last line counts, 'N passed, M failed'. */
+   pointer that has a length, and a buffer may begin at any address. The last line counts, 'N passed, M failed'. */
 #include "decklewren.h"
 #include <stdio.h>
 #include <string.h>

@@ -277,7 +277,8 @@ decklewren_slot decklewren_read_slot(const uint8_t *bits, size_t bits_len, uint8
 
 /* Takes the next part of a slot burst into a state (document 02, K2).
    Returns:  nothing
-   In:       part, any number of bytes, also none. They are kept as they come: one that is no bit is judged when the state is asked
+   In:       part, any number of bytes, also none. They are kept as they come: one that is no bit is judged when the state is asked.
+             The part may be used again as soon as the call returns
    Out:      count, more by part_len and at most 1505; bits, with the part behind what came before, as far as there is room
    Refusals: none
    Proved:   count and bits become just that, whatever they were */
@@ -288,7 +289,8 @@ void decklewren_take_part(uint32_t *count, uint8_t bits[DECKLEWREN_BURST_MOST], 
    In:       count and bits, as the parts left them; a count above 1505 is read as 1505
    Out:      the datagram as by decklewren_read_slot; count 0 and all of bits 0, after a refusal too, so that no byte of a burst
              outlives its answer
-   Refusals: as decklewren_read_slot, in the same order. After 3 the burst is gone as well
+   Refusals: as decklewren_read_slot, in the same order. After 3 the burst is gone as well: lend DECKLEWREN_HELD_7 bytes. To drop a
+             burst, ask with out_len 0
    Proved:   from a fresh state and for every list of parts, the answer and the bytes in out are those of reading the joined parts
              whole, also where they are longer than 1504; the state is fresh afterwards */
 decklewren_slot decklewren_read_parts(uint32_t *count, uint8_t bits[DECKLEWREN_BURST_MOST], uint8_t *out, size_t out_len);

@@ -1,5 +1,5 @@
--- The public calls as the relations and equations that their contracts name, and for each call that answers a number the lines of document
--- 01's table of numbers in the order in which it tests them.
+-- The public calls as the relations and equations that their contracts name (those by parts are TookPart and ReadParts of parts/specs), and
+-- for each call that answers a number the lines of document 01's table of numbers in the order in which it tests them.
 use mathlib.Core.Path.{_≡_}
 use mathlib.Core.Bool.{Bool, false}
 use mathlib.Core.List.{List, map}

@@ -1,5 +1,6 @@
 //! The tests of slot bursts that come in parts (document 02, K2): however a burst is cut, asking gives
-//! what reading it whole gives. Every other test that reads a slot burst cuts it once at random.
+//! what reading it whole gives. Every other test in which the archive reads a slot burst whole also
+//! hands it over cut at random.
 
 use crate::harness::archive::{self, SlotRead};
 use crate::harness::caller::Caller;
@@ -21,6 +22,7 @@ pub const TESTS: &[NamedTest] = named_tests![
     archive_reads_slots_byte_by_byte,
     archive_reads_slots_by_handfuls,
     archive_reads_one_burst_after_another,
+    archive_keeps_two_states_apart,
     archive_refuses_states_without_a_byte,
     archive_takes_parts_without_a_pointer,
     archive_reads_parts_into_any_buffer,
@@ -92,6 +94,45 @@ fn archive_reads_one_burst_after_another(given: &Given, test: &mut Test) {
     }
 }
 
+/// Two bursts at a time, each into a state of its own: a part of one and a part of the other in turn.
+fn archive_keeps_two_states_apart(given: &Given, test: &mut Test) {
+    let second = Second::read(&given.tables);
+    let mut random = test.random(605);
+    let requests = every_status::requests(&second);
+    for one in &requests {
+        for other in &requests {
+            let both = [one, other].map(|((burst, _), _)| handfuls(burst, &mut random));
+            let states = taken_in_turn(both);
+            for (state, ((burst, buffer), answer)) in states.into_iter().zip([one, other]) {
+                let call = || format!("burst of {} bytes beside another", burst.len());
+                let (answer, written) = to_be_read(answer.clone());
+                let asked = iter::once_with(|| asked(state, *buffer));
+                test.case(call, (answer, written, State::FRESH), asked);
+            }
+        }
+    }
+}
+
+fn taken_in_turn(both: [Vec<&[u8]>; 2]) -> [State; 2] {
+    let mut states = [State::FRESH, State::FRESH];
+    for turn in 0..both[0].len().max(both[1].len()) {
+        for (state, parts) in states.iter_mut().zip(&both) {
+            if let Some(part) = parts.get(turn) {
+                archive::take_part(&mut state.count, &mut state.bits, &mut part.to_vec());
+            }
+        }
+    }
+    states
+}
+
+/// The answer of a state, the bytes that it counts, and the state that is left.
+fn asked(mut state: State, buffer: usize) -> (SlotRead, Vec<u8>, State) {
+    let mut out = vec![0; buffer];
+    let answer = archive::read_parts(&mut state.count, &mut state.bits, &mut out);
+    out.truncate(answer.count as usize);
+    (answer, out, state)
+}
+
 /// Asked at once, and after up to four empty parts.
 fn archive_refuses_states_without_a_byte(_: &Given, test: &mut Test) {
     let mut caller = Caller::new(test);
@@ -109,28 +150,21 @@ fn archive_takes_parts_without_a_pointer(given: &Given, test: &mut Test) {
     let nothing = ((vec![], 0), Err(2));
     for ((burst, buffer), answer) in iter::once(nothing).chain(every_status::requests(&second)) {
         let call = || format!("burst of {} bytes among null pointers", burst.len());
-        let asked = iter::once_with(|| read_among_null_pointers(&burst, buffer));
+        let asked = iter::once_with(|| asked(taken_among_null_pointers(&burst), buffer));
         let (answer, written) = to_be_read(answer);
         test.case(call, (answer, written, State::FRESH), asked);
     }
 }
 
-/// The answer, the bytes that it counts, and the state that is left.
-fn read_among_null_pointers(burst: &[u8], buffer: usize) -> (SlotRead, Vec<u8>, State) {
-    let State {
-        mut count,
-        mut bits,
-    } = State::FRESH;
+fn taken_among_null_pointers(burst: &[u8]) -> State {
+    let mut state = State::FRESH;
     let (start, end) = burst.split_at(burst.len() / 2);
-    archive::take_no_part(&mut count, &mut bits);
+    archive::take_no_part(&mut state.count, &mut state.bits);
     for part in [start, end] {
-        archive::take_part(&mut count, &mut bits, &mut part.to_vec());
-        archive::take_no_part(&mut count, &mut bits);
+        archive::take_part(&mut state.count, &mut state.bits, &mut part.to_vec());
+        archive::take_no_part(&mut state.count, &mut state.bits);
     }
-    let mut out = vec![0; buffer];
-    let answer = archive::read_parts(&mut count, &mut bits, &mut out);
-    out.truncate(answer.count as usize);
-    (answer, out, State { count, bits })
+    state
 }
 
 /// A burst of each link with none, one and two wrong in its block, into every buffer up to ten bytes

@@ -29,15 +29,13 @@ pub struct Heard {
 }
 
 impl Heard {
-    /// Whatever a count above the longest says, the burst is too long and one byte more shows it:
-    /// which byte, and how many more there were, no answer tells.
+    /// Whatever a count above the longest says, the burst is too long: how many bytes more there were,
+    /// and which, no answer tells. Here it is heard twice over.
     pub fn of(state: &State) -> Heard {
-        let length = match state.count as usize {
-            count @ 0..=LONGEST => count,
-            _ => LONGEST + 1,
+        let came = match state.count as usize {
+            count @ 0..=LONGEST => state.bits[..count].to_vec(),
+            _ => state.bits.repeat(2),
         };
-        let mut came = state.bits.to_vec();
-        came.resize(length, 0);
         Heard {
             came,
             held: state.bits,

@@ -42,7 +42,7 @@ impl Request for ReadSlot<'_> {
 
     fn ask_second(&self, second: &Second) -> Self::Answer {
         let ReadSlot(burst, length) = *self;
-        second.read_slot(burst, length)
+        ReadWhole(burst, length).ask_second(second)
     }
 
     fn ask_archive(&self, caller: &mut Caller, expected: Self::Answer) {
