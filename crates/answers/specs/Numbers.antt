@@ -36,10 +36,18 @@ noBlock = 7
 abbrev pub pastEnd : ℕ
 pastEnd = 8
 
--- fewer than 3 bytes left, length below 7, or message past the end
-abbrev pub brokenMessage : ℕ
-brokenMessage = 9
+-- a message: length below 7
+abbrev pub smallLength : ℕ
+smallLength = 9
 
 -- a byte other than 0 after a 0 (document 02, K1)
 abbrev pub brokenFill : ℕ
 brokenFill = 10
+
+-- a message: fewer than 3 bytes left (document 02, K3)
+abbrev pub fewLeft : ℕ
+fewLeft = 11
+
+-- a message: past the end (document 02, K3)
+abbrev pub overrun : ℕ
+overrun = 12

@@ -155,4 +155,4 @@ module _ (datagram : List ℕ) (fits : length datagram ≤ 128) where
 
 pub cases : Cases
 unfolding generator withRows wordOf every zerosAt messageAt stepAt stepMessage
-cases = record { P1 = refl; P2 = refl; P3 = refl; P4 = seven-wrong; P5 = eight-wrong; P6 = nine-wrong; P7 = (p7-y0, p7-y1); P8 = p8; P9 = p9; P10 = (held-by-12, too-long); P11 = (refl, refl, refl); P12 = (refl, refl, refl); K1-spoilt = (refl, refl, refl); K1-ends = (refl, refl, refl, refl); K1-passed = (refl, refl, refl); K2-empty = empty; K2-counts = counts; K2-raw = raw; K2-longer = λ datagram fits x more. (kept datagram fits x more, longer datagram fits, read-7 datagram fits); short-7 = λ rest room size. other-7 rest room (λ e. omega (arith, size, e)); burst-lengths = rw (images .0, images .1, images .2) }
+cases = record { P1 = refl; P2 = refl; P3 = refl; P4 = seven-wrong; P5 = eight-wrong; P6 = nine-wrong; P7 = (p7-y0, p7-y1); P8 = p8; P9 = p9; P10 = (held-by-12, too-long); P11 = (refl, refl, refl); P12 = (refl, refl, refl); K1-spoilt = (refl, refl, refl); K1-ends = (refl, refl, refl, refl); K1-passed = (refl, refl, refl); K2-empty = empty; K2-counts = counts; K2-raw = raw; K2-longer = λ datagram fits x more. (kept datagram fits x more, longer datagram fits, read-7 datagram fits); K3-order = (refl, refl, refl); K3-missing = (refl, refl); short-7 = λ rest room size. other-7 rest room (λ e. omega (arith, size, e)); burst-lengths = rw (images .0, images .1, images .2) }

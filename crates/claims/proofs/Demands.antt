@@ -24,7 +24,7 @@ use Rattle.slots.specs.Calls.{slotTask}
 use Rattle.slots.proofs.WaysOfReading as rs
 use Rattle.parts.specs.State.{heard}
 use Rattle.parts.proofs.Hearing.{slot-sizes, longest-7}
-use Rattle.messages.proofs.Stepping.{step-goes, answer-inside, spoilt-exact, finished-exact, found-exact}
+use Rattle.messages.proofs.Stepping.{step-goes, answer-inside, lie-exact, lie-inside, none-missing, spoilt-exact, finished-exact, found-exact}
 use Rattle.messages.proofs.Tiling.{walks-tile, walks-fill}
 use Rattle.messages.proofs.Walk.{walk-ends, walks-one}
 use Rattle.claims.specs.Demands.{Demand1, Demand2, Demand3}
@@ -114,12 +114,16 @@ demand2 = record {
   message-found = λ datagram position answer e. rw e (found-exact datagram position);
   step-finished = λ datagram position answer e. rw e (finished-exact datagram position);
   step-spoilt = λ datagram position answer e. rw e (spoilt-exact datagram position);
+  step-lie = λ datagram position answer e. rw e (lie-exact datagram position);
+  step-missing = λ datagram position answer e. rw e (none-missing datagram position);
+  lie-inside = λ datagram position answer e. rw e (lie-inside datagram position);
   lie-refused = λ datagram size position start passed begins lie answer e. e ∙ messages.lie-refused datagram size position start passed begins lie;
   walk-ends = walk-ends;
   walk-determined = λ datagram found found' last last' w v. walks-one datagram w v;
   walk-tiles = λ datagram found last w. walks-tile datagram (omega arith) w;
   walk-count = messages.walk-count;
   walk-fill = λ datagram found w. walks-fill datagram (omega arith) w;
+  walk-lie = messages.walk-lie;
   walk-bytes = messages.walk-bytes;
 }
 

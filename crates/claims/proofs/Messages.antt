@@ -1,40 +1,60 @@
 -- What is shown of the steps through a datagram, from the laws of the crate `messages`.
 -- Assumes nothing.
-use mathlib.Core.Path.{_≡_, ap, _∙_}
+use mathlib.Core.Path.{_≡_, refl, sym, ap, _∙_}
+use mathlib.Core.Logic.{_↔_}
+use mathlib.Core.Bool.{true, false, true≢false}
 use mathlib.Core.List.{List, _++_}
-use Prim.Native.Nat.{ℕ, _+_, _*_, _≤_}
+use Prim.Native.Nat.{ℕ, _+_, _-_, _*_, _≤_}
 use native.Mathlib.Omega.{arith}
-use lib.ListN.{length, drop, take-append-drop}
-use Rattle.answers.specs.Numbers.{done, brokenMessage}
+use lib.ListN.{length, drop, take-append-drop, List·getD-eq-default}
+use Rattle.answers.specs.Numbers.{done, overrun}
 use Rattle.links.specs.Rows.{rows, placeIn, rowOf}
 use Rattle.links.specs.Sizes.{bytesHeld}
 use Rattle.messages.specs.declared.Step.{Step}
-use Rattle.messages.specs.Places.{byteAt, PassedOver, Begins, too-long}
+use Rattle.messages.specs.Places.{byteAt, PassedOver, Begins, totalAt, FewLeft, Tells, overruns, LieAt}
 use Rattle.messages.specs.Step as step
-use Rattle.messages.specs.working.Stepping.{Stepping, past, ends, spoils, breaks, finds}
-use Rattle.messages.specs.Tiling.{Tiles, bytesOf}
+use Rattle.messages.specs.working.Stepping.{Stepping, past, ends, spoils, lies, finds}
+use Rattle.messages.specs.Tiling.{Tiles, Leads, bytesOf}
 use Rattle.messages.specs.Walk.{Walks}
-use Rattle.messages.proofs.Stepping.{step-goes, broken-exact}
-use Rattle.messages.proofs.Tiling.{walks-tile, tiles-count, tiles-bytes}
+use Rattle.messages.proofs.Stepping.{step-goes, tells-lie, lie-exact, none-missing}
+use Rattle.messages.proofs.Ways.{same-status, same-start, same-length}
+use Rattle.messages.proofs.Tiling.{walks-tile, walks-lie, tiles-walk, tiles-count, tiles-bytes}
 use Rattle.claims.specs.Calls.{Stepped}
 
 pub lie-refused : (datagram : List ℕ) → length datagram ≡ bytesHeld (rowOf 5) → (position start : ℕ) → PassedOver datagram position start → Begins datagram start
-    → byteAt datagram (start + 1) * 256 + byteAt datagram (start + 2) ≡ 900 → step.stepMessage datagram position ≡ step.refused brokenMessage
+    → byteAt datagram (start + 1) * 256 + byteAt datagram (start + 2) ≡ 900 → step.stepMessage datagram position ≡ step.lie overrun start (start + 868)
 unfolding rows placeIn rowOf
-lie-refused datagram size position start passed begins lie = broken-exact datagram position .1 (start, passed, (begins, too-long (omega (arith, size))))
+lie-refused datagram size position start passed begins lie =
+    let here : FewLeft datagram start → ⊥ = λ few. omega (arith, lie, List·getD-eq-default datagram 0 {n = start + 2} (omega (arith, few))) in
+    let missing = start + totalAt datagram start - length datagram in
+    let told : Tells datagram start overrun missing = overruns here (λ small. omega (arith, lie, small)) (omega (arith, size, lie)) in
+    lie-exact datagram position overrun start missing refl .1 (passed, (begins, told)) ∙ ap (step.lie overrun start) (omega (arith, size, lie))
 
-pub refused : (datagram : List ℕ) (position : ℕ) (answer : Step) → Stepped datagram position answer → (answer .status ≡ done → ⊥) → (answer .start ≡ 0) × (answer .length ≡ 0)
-refused datagram position answer e z = goes (step-goes datagram position)
+pub refused : (datagram : List ℕ) (position : ℕ) (answer : Step) → Stepped datagram position answer → (answer .status ≡ done → ⊥)
+    → (step.isLie (answer .status) ≡ false → answer .start ≡ 0) × (answer .length ≡ 0) × ((answer .status ≡ overrun → ⊥) → answer .missing ≡ 0)
+refused datagram position answer e z =
+    (λ clear. starts (step-goes datagram position) clear, lengths (step-goes datagram position), λ other. rw e (none-missing datagram position (rw e at other)))
   where
-    zero : {number : ℕ} → step.stepMessage datagram position ≡ step.refused number → (answer .start ≡ 0) × (answer .length ≡ 0)
-    zero f = (ap (λ (a : Step). a .start) (e ∙ f), ap (λ (a : Step). a .length) (e ∙ f))
+    starts : Stepping datagram position → step.isLie (answer .status) ≡ false → answer .start ≡ 0
+    starts (past h f) clear = same-start (e ∙ f)
+    starts (ends h f) clear = same-start (e ∙ f)
+    starts (spoils h f) clear = same-start (e ∙ f)
+    starts (lies start number missing p l f) clear = absurd (true≢false (sym (tells-lie datagram (l .1)) ∙ ap step.isLie (sym (same-status (e ∙ f))) ∙ clear))
+    starts (finds start total p w f) clear = absurd (z (same-status (e ∙ f)))
 
-    goes : Stepping datagram position → (answer .start ≡ 0) × (answer .length ≡ 0)
-    goes (past h f) = zero f
-    goes (ends h f) = zero f
-    goes (spoils h f) = zero f
-    goes (breaks h f) = zero f
-    goes (finds start total passed whole f) = absurd (z (ap (λ (a : Step). a .status) (e ∙ f)))
+    lengths : Stepping datagram position → answer .length ≡ 0
+    lengths (past h f) = same-length (e ∙ f)
+    lengths (ends h f) = same-length (e ∙ f)
+    lengths (spoils h f) = same-length (e ∙ f)
+    lengths (lies start number missing p l f) = same-length (e ∙ f)
+    lengths (finds start total p w f) = absurd (z (same-status (e ∙ f)))
+
+pub walk-lie : (datagram : List ℕ) (found : List Step) (number start missing : ℕ) → step.isLie number ≡ true
+    → Walks datagram 0 found (step.lie number start missing) ↔ (Leads datagram 0 found start × LieAt datagram start number missing)
+walk-lie datagram found number start missing one = (walks-lie datagram one (omega arith), λ h. ends (h .0) (h .1))
+  where
+    ends : Leads datagram 0 found start → LieAt datagram start number missing → Walks datagram 0 found (step.lie number start missing)
+    ends (end, tiles, passed) told = tiles-walk datagram tiles (lie-exact datagram end number start missing one .1 (passed, told)) refl
 
 pub walk-bytes : (datagram : List ℕ) (found : List Step) (end : ℕ) → Tiles datagram 0 found end → bytesOf datagram 0 found ++ drop end datagram ≡ datagram
 walk-bytes datagram found end tiles = rw (← tiles-bytes datagram tiles) (take-append-drop end datagram)

@@ -4,11 +4,11 @@ use mathlib.Core.Path.{_≡_, refl, sym, ap, _∙_}
 use mathlib.Core.Logic.{inl, inr}
 use mathlib.Core.Bool.{Bool, true, false, true≢false}
 use mathlib.Core.List.{List}
-use Prim.Native.Nat.{ℕ}
+use Prim.Native.Nat.{ℕ, _<_}
 use native.Mathlib.Omega.{arith}
 use lib.ListN.{length}
 use Rattle.answers.specs.declared.Written.{Written}
-use Rattle.answers.specs.Numbers.{done, notOffered}
+use Rattle.answers.specs.Numbers.{notOffered, brokenFill}
 use Rattle.answers.specs.Outcome.{Wrote}
 use Rattle.answers.specs.Task.{Task, writeTask}
 use Rattle.answers.proofs.Task as t
@@ -22,10 +22,12 @@ use Rattle.slots.specs.declared.Slot.{Slot}
 use Rattle.slots.specs.Burst.{blockPart, isSlotLink}
 use Rattle.slots.proofs.WaysOfReading as rs
 use Rattle.messages.specs.declared.Step.{Step}
-use Rattle.messages.specs.Step.{refused, stepMessage}
-use Rattle.messages.specs.working.Stepping.{Stepping, past, ends, spoils, breaks, finds}
-use Rattle.messages.proofs.Stepping.{past-exact, broken-exact, spoilt-exact}
-use Rattle.claims.specs.Lines.{Lines, line, Given}
+use Rattle.messages.specs.Places.{byteAt, PassedOver, Behind, Spoilt, Begins, FewLeft, SmallLength, Overrun, Tells, few-left, small-length, overruns}
+use Rattle.messages.specs.Step.{refused, lie, stepMessage}
+use Rattle.messages.specs.working.Stepping.{Stepping, past, ends, spoils, lies, finds}
+use Rattle.messages.proofs.Places.{same-place}
+use Rattle.messages.proofs.Stepping.{spoilt-exact}
+use Rattle.claims.specs.Lines.{Lines, none as no-more, line, Given}
 use Rattle.claims.specs.Calls as calls
 use Rattle.claims.proofs.Endings.{writers}
 
@@ -122,16 +124,41 @@ module _ (datagram : List ℕ) (position : ℕ) (answer : Step) (e : calls.Stepp
   other : {A : Type 0} {step : Step} {number : ℕ} → stepMessage datagram position ≡ step → (A → stepMessage datagram position ≡ refused number) → (step .status ≡ number → ⊥) → A → ⊥
   other f line-says differs applies = differs (ap (λ (a : Step). a .status) (sym f ∙ line-says applies))
 
-  passes : {step : Step} → stepMessage datagram position ≡ step → (z : step .status ≡ done) → Given (calls.stepLines datagram position) (answer .status)
+  inside : {place : ℕ} → PassedOver datagram position place → length datagram < position → ⊥
+  inside p h = omega (arith, p .onward, p .inside)
+
+  -- what is not so of the message behind the 81s is so of none: there is one place only
+  module _ {place : ℕ} (p : PassedOver datagram position place) (other-byte : place < length datagram → byteAt datagram place ≡ 81 → ⊥) where
+    not-so : (Is : List ℕ → ℕ → Type 0) → (Begins datagram place → Is datagram place → ⊥) → calls.OfMessage datagram position Is → ⊥
+    not-so Is differs (found, q, (b, is)) =
+        let same = same-place datagram p other-byte q (λ l. b .no-fill) in
+        differs (rw same at b) (rw same at is)
+
+    -- where no message lies, and where none begins
+    no-lies : (number : ℕ) → (Begins datagram place → (FewLeft datagram place → ⊥) × (SmallLength datagram place → ⊥) × (Overrun datagram place → ⊥))
+        → Given (line brokenFill (Behind datagram position (Spoilt datagram)) no-more) number → Given (calls.stepLines datagram position) number
+    unfolding Given
+    no-lies number honest rest =
+        inr (inside p, inr (not-so FewLeft (λ b. honest b .0), inr (not-so SmallLength (λ b. honest b .1), inr (not-so Overrun (λ b. honest b .2), rest))))
+
+  lied : {start number missing : ℕ} → PassedOver datagram position start → Begins datagram start → Tells datagram start number missing → stepMessage datagram position ≡ lie number start missing
+      → Given (calls.stepLines datagram position) (answer .status)
   unfolding Given
-  passes f z =
-      inr (other f (past-exact datagram position .1) (λ y. omega (arith, y, z)), inr (other f (broken-exact datagram position .1) (λ y. omega (arith, y, z)), inr (other f (spoilt-exact datagram position .1) (λ y. omega (arith, y, z)), status-step f ∙ z)))
+  lied {start} p b (few-left h) f = inr (inside p, inl ((start, p, (b, h)), status-step f))
+  lied {start} p b (small-length k h) f = inr (inside p, inr (not-so p (λ l. b .no-fill) FewLeft (λ c. k), inl ((start, p, (b, h)), status-step f)))
+  lied {start} p b (overruns k s h) f =
+      inr (inside p, inr (not-so p (λ l. b .no-fill) FewLeft (λ c. k), inr (not-so p (λ l. b .no-fill) SmallLength (λ c. s), inl ((start, p, (b, h)), status-step f))))
 
   pub steps : Stepping datagram position → Given (calls.stepLines datagram position) (answer .status)
   unfolding Given
   steps (past h f) = inl (h, status-step f)
-  steps (breaks h f) = inr (other f (past-exact datagram position .1) (λ z. omega (arith, z)), inl (h, status-step f))
-  steps (spoils h f) =
-      inr (other f (past-exact datagram position .1) (λ z. omega (arith, z)), inr (other f (broken-exact datagram position .1) (λ z. omega (arith, z)), inl (h, status-step f)))
-  steps (ends h f) = passes f refl
-  steps (finds start total passed whole f) = passes f refl
+  steps (lies start number missing p l f) = lied p (l .0) (l .1) f
+  steps (spoils (place, p, s) f) =
+      no-lies p (λ l k. omega (arith, k, s .zero)) (answer .status) (λ b. absurd (b .no-zero (s .zero))) (inl ((place, p, s), status-step f))
+  steps (ends (place, p, z) f) =
+      no-lies p (λ l k. omega (arith, k, z place (omega arith) l)) (answer .status) (λ b. absurd (b .no-zero (z place (omega arith) (b .inside))))
+      (inr (other f (spoilt-exact datagram position .1) (λ y. omega (arith, y)), status-step f))
+  steps (finds start total p w f) =
+      no-lies p (λ l. w .begins .no-fill) (answer .status)
+      (λ b. (λ h. omega (arith, h, w .least, w .ends), λ h. omega (arith, h, w .least, w .declares), λ h. omega (arith, h, w .ends, w .declares)))
+      (inr (other f (spoilt-exact datagram position .1) (λ y. omega (arith, y)), status-step f))

@@ -6,7 +6,7 @@ use mathlib.Core.List.{List, map}
 use Prim.Native.Nat.{ℕ, _<_}
 use lib.ListN.{length, take, drop}
 use Rattle.answers.specs.declared.Written.{Written}
-use Rattle.answers.specs.Numbers.{done, notOffered, wrongLength, noRoom, noBit, noTraining, noWord, noBlock, pastEnd, brokenMessage, brokenFill}
+use Rattle.answers.specs.Numbers.{done, notOffered, wrongLength, noRoom, noBit, noTraining, noWord, noBlock, pastEnd, smallLength, brokenFill, fewLeft, overrun}
 use Rattle.answers.specs.Outcome.{Wrote}
 use Rattle.answers.specs.Task.{Task}
 use Rattle.bits.specs.Bits.{isOne, allBits}
@@ -26,7 +26,7 @@ use Rattle.parts.specs.State.{State, fresh, heard}
 use Rattle.parts.specs.Taking.{joined, TookAll}
 use Rattle.parts.specs.Asking.{ReadParts}
 use Rattle.messages.specs.declared.Step.{Step}
-use Rattle.messages.specs.Places.{Behind, Spoilt, BrokenAt}
+use Rattle.messages.specs.Places.{Behind, Spoilt, Begins, FewLeft, SmallLength, Overrun}
 use Rattle.messages.specs.Step.{stepMessage}
 use Rattle.printer_text.specs.declared.Text.{Text}
 use Rattle.printer_text.specs.Lines.{textOf}
@@ -140,14 +140,20 @@ readSlotLines burst room = trainingLines burst (wordLines burst (restLines (name
 abbrev pub readPartsLines : State → ℕ → Lines
 readPartsLines before room = readSlotLines (heard before) room
 
--- position past the end; then, behind the 81s that are passed over, a message with fewer than 3 bytes left, length below 7, or past the
--- end; or a byte other than 0 after a 0
+-- behind the 81s that are passed over a message begins, and something is so of it
+abbrev pub OfMessage : List ℕ → ℕ → (List ℕ → ℕ → Type 0) → Type 0
+OfMessage datagram position Is = Behind datagram position (λ place. Begins datagram place × Is datagram place)
+
+-- position past the end; then, behind the 81s that are passed over, a message with fewer than 3 bytes left, with a length below 7, or past
+-- the end; or a byte other than 0 after a 0
 abbrev pub stepLines : List ℕ → ℕ → Lines
 stepLines datagram position =
     line pastEnd (length datagram < position)
-    (line brokenMessage (Behind datagram position (BrokenAt datagram))
+    (line fewLeft (OfMessage datagram position FewLeft)
+    (line smallLength (OfMessage datagram position SmallLength)
+    (line overrun (OfMessage datagram position Overrun)
     (line brokenFill (Behind datagram position (Spoilt datagram))
-    none))
+    none))))
 
 -- ---- what readers answer
 -- a datagram, laid at the buffer's start, so many bytes of it; the bytes behind stay

@@ -6,7 +6,7 @@ use mathlib.Core.List.{List, [], _∷_, _++_, map}
 use Prim.Native.Nat.{ℕ, _+_, _*_, _<_, _≤_, min}
 use lib.ListN.{length, getD, take, drop}
 use Rattle.answers.specs.declared.Written.{Written}
-use Rattle.answers.specs.Numbers.{done, noWord, noBlock, brokenMessage, brokenFill}
+use Rattle.answers.specs.Numbers.{done, noWord, noBlock, brokenFill, overrun}
 use Rattle.bits.specs.Bits.{isOne, byte}
 use Rattle.bits.specs.Datagram.{allBytes}
 use Rattle.bits.specs.Row.{differences, flip}
@@ -30,9 +30,9 @@ use Rattle.parts.specs.State.{longest, stop, State, state, fresh}
 use Rattle.parts.specs.Taking.{TookPart, joined, TookAll}
 use Rattle.parts.specs.Asking.{ReadParts}
 use Rattle.messages.specs.declared.Step.{Step}
-use Rattle.messages.specs.Places.{byteAt, PassedOver, Behind, NoneLeft, Spoilt, Begins, Whole}
-use Rattle.messages.specs.Step.{finished, message, refused as stepRefused}
-use Rattle.messages.specs.Tiling.{Tiles, Tiled, bytesOf}
+use Rattle.messages.specs.Places.{byteAt, PassedOver, Behind, NoneLeft, Spoilt, Begins, LieAt, Whole}
+use Rattle.messages.specs.Step.{finished, message, lie, isLie, refused as stepRefused}
+use Rattle.messages.specs.Tiling.{Tiles, Leads, Tiled, bytesOf}
 use Rattle.messages.specs.Walk.{Walks, walk}
 use Rattle.printer_text.specs.declared.Text.{Text}
 use Rattle.claims.specs.Lines.{Lines, Given}
@@ -64,7 +64,9 @@ pub record Demand1 : Type 1 where
   -- by parts too: "the state isn't among demand 1's lent bytes"
   pub read-parts-refused : (before after : State) (old new : List ℕ) (answer : Slot) → ReadParts before after old new answer → (answer .status ≡ done → ⊥)
       → (answer .count ≡ 0) × (answer .wrong ≡ 0) × (answer .link ≡ 0) × (answer .«word_wrong» ≡ 0) × (new ≡ old)
-  pub step-refused : (datagram : List ℕ) (position : ℕ) (answer : Step) → Stepped datagram position answer → (answer .status ≡ done → ⊥) → (answer .start ≡ 0) × (answer .length ≡ 0)
+  -- but, by document 02's K3, for the place of a message that lies, and the bytes that are missing where it runs past the end
+  pub step-refused : (datagram : List ℕ) (position : ℕ) (answer : Step) → Stepped datagram position answer → (answer .status ≡ done → ⊥)
+      → (isLie (answer .status) ≡ false → answer .start ≡ 0) × (answer .length ≡ 0) × ((answer .status ≡ overrun → ⊥) → answer .missing ≡ 0)
   -- bytes behind those that are answered stay
   pub write-word-behind : (n : ℕ) (old new : List ℕ) (answer : Written) → WroteWord n old new answer → drop (answer .count) new ≡ drop (answer .count) old
   pub write-block-behind : (link : ℕ) (datagram old new : List ℕ) (answer : Written) → WroteBlock link datagram old new answer → drop (answer .count) new ≡ drop (answer .count) old
@@ -165,9 +167,15 @@ pub record Demand2 : Type 0 where
   -- 10: exactly where, behind 81s alone, a 0 stands, and behind it a byte other than 0
   pub step-spoilt : (datagram : List ℕ) (position : ℕ) (answer : Step) → Stepped datagram position answer
       → (answer ≡ stepRefused brokenFill) ↔ Behind datagram position (Spoilt datagram)
+  -- 11, 9 and 12: exactly where, behind 81s alone, a message begins that tells this lie, with the message's place and the bytes that are
+  -- missing. Everything else is answered with none missing, and the place of a lie is inside the datagram
+  pub step-lie : (datagram : List ℕ) (position : ℕ) (answer : Step) → Stepped datagram position answer → (number start missing : ℕ) → isLie number ≡ true
+      → (answer ≡ lie number start missing) ↔ (PassedOver datagram position start × LieAt datagram start number missing)
+  pub step-missing : (datagram : List ℕ) (position : ℕ) (answer : Step) → Stepped datagram position answer → (answer .status ≡ overrun → ⊥) → answer .missing ≡ 0
+  pub lie-inside : (datagram : List ℕ) (position : ℕ) (answer : Step) → Stepped datagram position answer → isLie (answer .status) ≡ true → answer .start < length datagram
   -- the lie of last spring: any burst of one slot whose message, also behind 81s, declares 900 bytes
   pub lie-refused : (datagram : List ℕ) → length datagram ≡ bytesHeld (rowOf 5) → (position start : ℕ) → PassedOver datagram position start → Begins datagram start
-      → byteAt datagram (start + 1) * 256 + byteAt datagram (start + 2) ≡ 900 → (answer : Step) → Stepped datagram position answer → answer ≡ stepRefused brokenMessage
+      → byteAt datagram (start + 1) * 256 + byteAt datagram (start + 2) ≡ 900 → (answer : Step) → Stepped datagram position answer → answer ≡ lie overrun start (start + 868)
   -- stepping from 0, each next step at start + length, ends, and with one outcome
   pub walk-ends : (datagram : List ℕ) → Walks datagram 0 (walk datagram .found) (walk datagram .last)
   pub walk-determined : (datagram : List ℕ) (found found' : List Step) (last last' : Step) → Walks datagram 0 found last → Walks datagram 0 found' last'
@@ -178,6 +186,9 @@ pub record Demand2 : Type 0 where
   pub walk-count : (datagram : List ℕ) (found : List Step) (last : Step) → Walks datagram 0 found last → 7 * length found ≤ length datagram
   -- if it ends in "finished", behind the last message are 81s and then zeros
   pub walk-fill : (datagram : List ℕ) (found : List Step) → Walks datagram 0 found finished → (end : ℕ) × Tiles datagram 0 found end × NoneLeft datagram end
+  -- it ends in a lie exactly where such messages lead to the message that tells it, and names it
+  pub walk-lie : (datagram : List ℕ) (found : List Step) (number start missing : ℕ) → isLie number ≡ true
+      → Walks datagram 0 found (lie number start missing) ↔ (Leads datagram 0 found start × LieAt datagram start number missing)
   -- the messages, the 81s before and between them and what is left behind are the datagram
   pub walk-bytes : (datagram : List ℕ) (found : List Step) (end : ℕ) → Tiles datagram 0 found end → bytesOf datagram 0 found ++ drop end datagram ≡ datagram
 

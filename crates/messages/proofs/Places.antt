@@ -41,6 +41,15 @@ module _ (datagram : List ℕ) where
   pub passed-ends : (position : ℕ) → position ≤ length datagram → Ended position
   passed-ends position h = passed-to (length datagram - position) position (omega arith)
 
+  -- and at one place only: they do not go on behind another byte
+  not-behind : {position place other : ℕ} → PassedOver datagram position place → (place < length datagram → byteAt datagram place ≡ 81 → ⊥)
+      → PassedOver datagram position other → place < other → ⊥
+  not-behind {position} {place} p h q l = h (omega (arith, q .inside)) (q .each place (p .onward) l)
+
+  pub same-place : {position place other : ℕ} → PassedOver datagram position place → (place < length datagram → byteAt datagram place ≡ 81 → ⊥)
+      → PassedOver datagram position other → (other < length datagram → byteAt datagram other ≡ 81 → ⊥) → other ≡ place
+  same-place p h q k = omega (arith, not-behind p h q, not-behind q k p)
+
 -- ---- what is left from a place on
 module _ (datagram : List ℕ) (place : ℕ) where
   pub left-declares : declaredLength (drop place datagram) ≡ totalAt datagram place

@@ -2,7 +2,7 @@
 -- Assumes nothing.
 use mathlib.Core.Path.{_≡_, refl, sym, ap, _∙_}
 use mathlib.Core.Logic.{_↔_, by-cases}
-use mathlib.Core.Bool.{Bool, true, false}
+use mathlib.Core.Bool.{Bool, true, false, true≢false}
 use mathlib.Core.List.{List}
 use Prim.Native.Nat.{ℕ, zero, suc, _+_, _-_, _<_, _≤_}
 use native.Mathlib.Decide.{ℕ-discrete}
@@ -10,14 +10,17 @@ use native.Mathlib.Omega.{arith}
 use lib.Dec.{ltb}
 use lib.ListN.{length, drop, length-drop}
 use borrow.Author.Tests.{ltb-true, ltb-false}
-use Rattle.answers.specs.Numbers.{pastEnd, brokenMessage, brokenFill}
+use Rattle.answers.specs.Numbers.{pastEnd, brokenFill, overrun}
 use Rattle.messages.specs.declared.Step.{Step}
 use Rattle.messages.specs.Fill.{onlyZeros}
-use Rattle.messages.specs.Places.{byteAt, PassedOver, Behind, ZerosFrom, NoneLeft, Spoilt, Begins, totalAt, Broken, too-few, too-small, too-long, BrokenAt, Whole}
-use Rattle.messages.specs.Step.{refused, finished, message, messageAt, stepFrom, stepMessage}
-use Rattle.messages.specs.working.Stepping.{Stepping, past, ends, spoils, breaks, finds}
+use Rattle.messages.specs.Places.{byteAt, PassedOver, Behind, ZerosFrom, NoneLeft, Spoilt, Begins, totalAt, FewLeft, SmallLength, Overrun, Tells, few-left, small-length, overruns, LieAt, Whole}
+use Rattle.messages.specs.Step.{refused, finished, message, lie, isLie, messageAt, stepFrom, stepMessage}
+use Rattle.messages.specs.working.Stepping.{Stepping, past, ends, spoils, lies, finds}
 use Rattle.messages.proofs.Places.{passed-ends, left-declares, only-from, from-only, spoilt-at, spoilt-only}
-use Rattle.messages.proofs.Ways.{same-status, same-start, same-length, zeros-only, zeros-broken, message-few, message-small, message-long, message-whole, step-end, step-passes, step-zeros, step-begins, step-past, step-within}
+use Rattle.messages.proofs.Ways.{same-status, same-start, same-length, same-missing, zeros-only, zeros-broken, message-few, message-small, message-long, message-whole, step-end, step-passes, step-zeros, step-begins, step-past, step-within}
+
+not-below : (a b : ℕ) → ltb a b ≡ false → a < b → ⊥
+not-below a b e h = omega (arith, ltb-false a b e)
 
 module _ (datagram : List ℕ) where
   -- ---- what is passed over does not change the answer
@@ -48,13 +51,20 @@ module _ (datagram : List ℕ) where
   begins-answer : (place : ℕ) → Begins datagram place → stepFrom datagram place ≡ messageAt place (drop place datagram)
   begins-answer place b = step-begins datagram place (b .inside) (b .no-fill) (b .no-zero)
 
-  broken-answer : (place : ℕ) → BrokenAt datagram place → stepFrom datagram place ≡ refused brokenMessage
-  broken-answer place (b, broken) = begins-answer place b ∙ refuses broken
+  lie-answer : (place number missing : ℕ) → LieAt datagram place number missing → stepFrom datagram place ≡ lie number place missing
+  lie-answer place number missing (b, told) = begins-answer place b ∙ refuses told
     where
-      refuses : Broken datagram place → messageAt place (drop place datagram) ≡ refused brokenMessage
-      refuses (too-few h) = message-few place (drop place datagram) (omega (arith, length-drop place datagram))
-      refuses (too-small h) = message-small place (drop place datagram) (rw (left-declares datagram place) h)
-      refuses (too-long h) = message-long place (drop place datagram) (omega (arith, b .inside, length-drop place datagram, left-declares datagram place))
+      left : List ℕ
+      left = drop place datagram
+
+      refuses : {n m : ℕ} → Tells datagram place n m → messageAt place left ≡ lie n place m
+      refuses (few-left h) = message-few place left (omega (arith, length-drop place datagram))
+      refuses (small-length e h) = message-small place left (omega (arith, e, length-drop place datagram)) (rw (left-declares datagram place) h)
+      refuses (overruns e s h) =
+          let long = length-drop place datagram in
+          let same = left-declares datagram place in
+          message-long place left (omega (arith, e, long)) (omega (arith, s, same)) (omega (arith, h, b .inside, long, same))
+          ∙ ap (lie overrun place) (omega (arith, h, b .inside, long, same))
 
   whole-answer : (place total : ℕ) → Whole datagram place total → stepFrom datagram place ≡ message place total
   whole-answer place total w =
@@ -62,6 +72,12 @@ module _ (datagram : List ℕ) where
       begins-answer place (w .begins)
       ∙ message-whole place (drop place datagram) (rw same (w .least)) (rw (same, length-drop place datagram) (omega (arith, w .ends)))
       ∙ ap (message place) same
+
+  -- what is told is one of the three lies
+  pub tells-lie : {place number missing : ℕ} → Tells datagram place number missing → isLie number ≡ true
+  tells-lie (few-left h) = refl
+  tells-lie (small-length e h) = refl
+  tells-lie (overruns e s h) = refl
 
 module _ (datagram : List ℕ) (position : ℕ) where
   -- ---- what each way answers
@@ -71,8 +87,8 @@ module _ (datagram : List ℕ) (position : ℕ) where
   spoils-answers : Behind datagram position (Spoilt datagram) → stepMessage datagram position ≡ refused brokenFill
   spoils-answers (place, p, s) = from-place datagram position place p ∙ spoilt-answer datagram place s
 
-  breaks-answers : Behind datagram position (BrokenAt datagram) → stepMessage datagram position ≡ refused brokenMessage
-  breaks-answers (place, p, broken) = from-place datagram position place p ∙ broken-answer datagram place broken
+  lies-answers : (start number missing : ℕ) → PassedOver datagram position start → LieAt datagram start number missing → stepMessage datagram position ≡ lie number start missing
+  lies-answers start number missing p told = from-place datagram position start p ∙ lie-answer datagram start number missing told
 
   finds-answers : (start total : ℕ) → PassedOver datagram position start → Whole datagram start total → stepMessage datagram position ≡ message start total
   finds-answers start total p w = from-place datagram position start p ∙ whole-answer datagram start total w
@@ -84,13 +100,13 @@ module _ (datagram : List ℕ) (position : ℕ) where
       total : ℕ
       total = totalAt datagram place
 
-      broken : Broken datagram place → Stepping datagram position
-      broken w = let behind : Behind datagram position (BrokenAt datagram) = (place, p, (b, w)) in breaks behind (breaks-answers behind)
+      told : {number missing : ℕ} → Tells datagram place number missing → Stepping datagram position
+      told {number} {missing} t = lies place number missing p (b, t) (lies-answers place number missing p (b, t))
 
       decided : (few small long : Bool) → ltb (length datagram) (place + 3) ≡ few → ltb total 7 ≡ small → ltb (length datagram) (place + total) ≡ long → Stepping datagram position
-      decided true small long f s l = broken (too-few (ltb-true _ _ f))
-      decided false true long f s l = broken (too-small (ltb-true _ _ s))
-      decided false false true f s l = broken (too-long (ltb-true _ _ l))
+      decided true small long f s l = told (few-left (ltb-true _ _ f))
+      decided false true long f s l = told (small-length (not-below _ _ f) (ltb-true _ _ s))
+      decided false false true f s l = told (overruns (not-below _ _ f) (not-below _ _ s) (ltb-true _ _ l))
       decided false false false f s l =
           let whole : Whole datagram place total = record { begins = b; declares = refl; least = ltb-false _ _ s; ends = ltb-false _ _ l } in
           finds place total p whole (finds-answers place total p whole)
@@ -122,12 +138,15 @@ module _ (datagram : List ℕ) (position : ℕ) where
       decided true b = past (ltb-true _ _ b) (step-past datagram position (ltb-true _ _ b))
       decided false b = within (ltb-false _ _ b)
 
-  -- ---- two ways never answer the same: the status differs, or the length
+  -- ---- two ways never answer the same: the status differs, also in being a lie's, or the length
   no-status : {a b : Step} {A : Type 0} → stepMessage datagram position ≡ a → stepMessage datagram position ≡ b → (a .status ≡ b .status → ⊥) → A
   no-status p q differ = absurd (differ (same-status (sym p ∙ q)))
 
   no-length : {a b : Step} {A : Type 0} → stepMessage datagram position ≡ a → stepMessage datagram position ≡ b → (a .length ≡ b .length → ⊥) → A
   no-length p q differ = absurd (differ (same-length (sym p ∙ q)))
+
+  no-lie : {a b : Step} {A : Type 0} → stepMessage datagram position ≡ a → isLie (a .status) ≡ false → stepMessage datagram position ≡ b → isLie (b .status) ≡ true → A
+  no-lie p none q one = absurd (true≢false (sym one ∙ ap isLie (same-status (sym q ∙ p)) ∙ none))
 
   -- ---- each answer exactly then
   pub past-exact : (stepMessage datagram position ≡ refused pastEnd) ↔ (length datagram < position)
@@ -137,18 +156,21 @@ module _ (datagram : List ℕ) (position : ℕ) where
       goes (past h q) e = h
       goes (ends h q) e = no-status e q (omega arith)
       goes (spoils h q) e = no-status e q (omega arith)
-      goes (breaks h q) e = no-status e q (omega arith)
+      goes (lies start number missing p l q) e = no-lie e refl q (tells-lie datagram (l .1))
       goes (finds start total p w q) e = no-status e q (omega arith)
 
-  pub broken-exact : (stepMessage datagram position ≡ refused brokenMessage) ↔ Behind datagram position (BrokenAt datagram)
-  broken-exact = (λ e. goes step-goes e, breaks-answers)
+  pub lie-exact : (number start missing : ℕ) → isLie number ≡ true
+      → (stepMessage datagram position ≡ lie number start missing) ↔ (PassedOver datagram position start × LieAt datagram start number missing)
+  lie-exact number start missing one = (λ e. goes step-goes e, λ h. lies-answers start number missing (h .0) (h .1))
     where
-      goes : Stepping datagram position → stepMessage datagram position ≡ refused brokenMessage → Behind datagram position (BrokenAt datagram)
-      goes (past h q) e = no-status e q (omega arith)
-      goes (ends h q) e = no-status e q (omega arith)
-      goes (spoils h q) e = no-status e q (omega arith)
-      goes (breaks h q) e = h
-      goes (finds start total p w q) e = no-status e q (omega arith)
+      goes : Stepping datagram position → stepMessage datagram position ≡ lie number start missing → PassedOver datagram position start × LieAt datagram start number missing
+      goes (past h q) e = no-lie q refl e one
+      goes (ends h q) e = no-lie q refl e one
+      goes (spoils h q) e = no-lie q refl e one
+      goes (lies place n m p l q) e =
+          let same = sym e ∙ q in
+          rw (same-status same, same-start same, same-missing same) (p, l)
+      goes (finds place total p w q) e = no-lie q refl e one
 
   pub spoilt-exact : (stepMessage datagram position ≡ refused brokenFill) ↔ Behind datagram position (Spoilt datagram)
   spoilt-exact = (λ e. goes step-goes e, spoils-answers)
@@ -157,7 +179,7 @@ module _ (datagram : List ℕ) (position : ℕ) where
       goes (past h q) e = no-status e q (omega arith)
       goes (ends h q) e = no-status e q (omega arith)
       goes (spoils h q) e = h
-      goes (breaks h q) e = no-status e q (omega arith)
+      goes (lies start number missing p l q) e = no-lie e refl q (tells-lie datagram (l .1))
       goes (finds start total p w q) e = no-status e q (omega arith)
 
   pub finished-exact : (stepMessage datagram position ≡ finished) ↔ NoneLeft datagram position
@@ -167,7 +189,7 @@ module _ (datagram : List ℕ) (position : ℕ) where
       goes (past h q) e = no-status e q (omega arith)
       goes (ends h q) e = h
       goes (spoils h q) e = no-status e q (omega arith)
-      goes (breaks h q) e = no-status e q (omega arith)
+      goes (lies start number missing p l q) e = no-lie e refl q (tells-lie datagram (l .1))
       goes (finds start total p w q) e = no-length e q (omega (arith, w .least))
 
   -- "finished" has length 0, so a message is an answer with a length
@@ -178,7 +200,7 @@ module _ (datagram : List ℕ) (position : ℕ) where
       goes (past h q) e z = no-status e q (omega arith)
       goes (ends h q) e z = no-length e q (omega arith)
       goes (spoils h q) e z = no-status e q (omega arith)
-      goes (breaks h q) e z = no-status e q (omega arith)
+      goes (lies place number missing p l q) e z = no-lie e refl q (tells-lie datagram (l .1))
       goes (finds place n p w q) e z =
           let same = sym e ∙ q in
           rw (same-start same, same-length same) (p, w)
@@ -191,5 +213,32 @@ module _ (datagram : List ℕ) (position : ℕ) where
       goes (past h q) = rw q (omega arith)
       goes (ends h q) = rw q (omega arith)
       goes (spoils h q) = rw q (omega arith)
-      goes (breaks h q) = rw q (omega arith)
+      goes (lies place number missing p l q) = rw q (omega (arith, l .0 .inside))
       goes (finds start total p w q) = rw q (w .ends)
+
+  -- the place that comes back with a lie is inside it
+  pub lie-inside : isLie (stepMessage datagram position .status) ≡ true → stepMessage datagram position .start < length datagram
+  lie-inside one = goes step-goes
+    where
+      goes : Stepping datagram position → stepMessage datagram position .start < length datagram
+      goes (past h q) = no-lie q refl refl one
+      goes (ends h q) = no-lie q refl refl one
+      goes (spoils h q) = no-lie q refl refl one
+      goes (lies start number missing p l q) = rw q (l .0 .inside)
+      goes (finds start total p w q) = no-lie q refl refl one
+
+  -- bytes are missing only past the end
+  pub none-missing : (stepMessage datagram position .status ≡ overrun → ⊥) → stepMessage datagram position .missing ≡ 0
+  none-missing other = goes step-goes
+    where
+      told : {place number missing : ℕ} → Tells datagram place number missing → stepMessage datagram position ≡ lie number place missing → stepMessage datagram position .missing ≡ 0
+      told (few-left h) q = same-missing q
+      told (small-length e h) q = same-missing q
+      told (overruns e s h) q = absurd (other (same-status q))
+
+      goes : Stepping datagram position → stepMessage datagram position .missing ≡ 0
+      goes (past h q) = same-missing q
+      goes (ends h q) = same-missing q
+      goes (spoils h q) = same-missing q
+      goes (lies start number missing p l q) = told (l .1) q
+      goes (finds start total p w q) = same-missing q

@@ -10,7 +10,7 @@ use borrow.Author.Tests.{eq-eqb, ne-eqb}
 use Rattle.messages.specs.declared.Step.{Step}
 use Rattle.messages.specs.Places.{PassedOver, Whole}
 use Rattle.messages.specs.Step.{message, stepMessage}
-use Rattle.messages.specs.working.Stepping.{Stepping, past, ends, spoils, breaks, finds}
+use Rattle.messages.specs.working.Stepping.{Stepping, past, ends, spoils, lies, finds}
 use Rattle.messages.specs.Walk.{Walks, stops, goes, walkFrom, walk}
 use Rattle.messages.proofs.Stepping.{step-goes}
 use Rattle.messages.proofs.Ways.{same-start, same-length}
@@ -31,7 +31,7 @@ module _ (datagram : List ℕ) where
       go (past h q) = inl (same-length q)
       go (ends h q) = inl (same-length q)
       go (spoils h q) = inl (same-length q)
-      go (breaks h q) = inl (same-length q)
+      go (lies start number missing p l q) = inl (same-length q)
       go (finds start total p w q) = inr (record { start = start; total = total; passed = p; whole = w; answers = q })
 
   -- ---- stepping ends: every message takes bytes of what is left

@@ -1,18 +1,18 @@
 -- One law for each way a step goes.
 -- Assumes nothing.
-use mathlib.Core.Path.{_≡_, refl, ap}
-use mathlib.Core.Bool.{Bool, true, false, cond}
+use mathlib.Core.Path.{_≡_, ap}
+use mathlib.Core.Bool.{true, false}
 use mathlib.Core.List.{List}
-use Prim.Native.Nat.{ℕ, _+_, _<_, _≤_}
+use Prim.Native.Nat.{ℕ, _+_, _-_, _<_, _≤_}
 use native.Mathlib.Omega.{arith}
 use native.Mathlib.Numerals.{add-one}
 use lib.ListN.{length, getD, drop, drop-of-length-le}
 use lib.Seq.{drop-cons}
 use borrow.Author.Tests.{lt-ltb, le-ltb, ne-eqb}
-use Rattle.answers.specs.Numbers.{pastEnd, brokenMessage, brokenFill}
+use Rattle.answers.specs.Numbers.{pastEnd, smallLength, brokenFill, fewLeft, overrun}
 use Rattle.messages.specs.declared.Step.{Step}
 use Rattle.messages.specs.Fill.{onlyZeros}
-use Rattle.messages.specs.Step.{refused, finished, message, declaredLength, zerosAt, messageAt, stepAt, stepFrom, stepMessage}
+use Rattle.messages.specs.Step.{refused, finished, message, lie, declaredLength, zerosAt, messageAt, stepAt, stepFrom, stepMessage}
 
 -- ---- equal answers are equal in each number
 module _ {a b : Step} (e : a ≡ b) where
@@ -25,6 +25,9 @@ module _ {a b : Step} (e : a ≡ b) where
   pub same-length : a .length ≡ b .length
   same-length = ap (λ (s : Step). s .length) e
 
+  pub same-missing : a .missing ≡ b .missing
+  same-missing = ap (λ (s : Step). s .missing) e
+
 -- ---- where the zero fill begins
 pub zeros-only : (left : List ℕ) → onlyZeros left ≡ true → zerosAt left ≡ finished
 unfolding zerosAt
@@ -34,23 +37,20 @@ pub zeros-broken : (left : List ℕ) → onlyZeros left ≡ false → zerosAt le
 unfolding zerosAt
 zeros-broken left e = rw e
 
--- ---- where a message begins: each of the three tests refuses by itself
-either-way : (b : Bool) (answer : Step) → cond b answer answer ≡ answer
-either-way true answer = refl
-either-way false answer = refl
-
+-- ---- where a message begins, by the first of the three tests that it fails
 module _ (position : ℕ) (left : List ℕ) where
-  pub message-few : length left < 3 → messageAt position left ≡ refused brokenMessage
+  pub message-few : length left < 3 → messageAt position left ≡ lie fewLeft position 0
   unfolding messageAt
   message-few h = simp (lt-ltb (length left) 3 h)
 
-  pub message-small : declaredLength left < 7 → messageAt position left ≡ refused brokenMessage
+  pub message-small : 3 ≤ length left → declaredLength left < 7 → messageAt position left ≡ lie smallLength position 0
   unfolding messageAt
-  message-small h = simp (lt-ltb (declaredLength left) 7 h, either-way)
+  message-small l h = simp (le-ltb (length left) 3 l, lt-ltb (declaredLength left) 7 h)
 
-  pub message-long : length left < declaredLength left → messageAt position left ≡ refused brokenMessage
+  pub message-long : 3 ≤ length left → 7 ≤ declaredLength left → length left < declaredLength left
+      → messageAt position left ≡ lie overrun position (declaredLength left - length left)
   unfolding messageAt
-  message-long h = simp (lt-ltb (length left) (declaredLength left) h, either-way)
+  message-long l s h = simp (le-ltb (length left) 3 l, le-ltb (declaredLength left) 7 s, lt-ltb (length left) (declaredLength left) h)
 
   pub message-whole : 7 ≤ declaredLength left → declaredLength left ≤ length left → messageAt position left ≡ message position (declaredLength left)
   unfolding messageAt

@@ -1,9 +1,10 @@
--- What stands at a position of a datagram, in the words of document 01 ("Messages in a datagram", and the numbers 8, 9, 10) and of
--- document 02's K1: what the claims hold a step against.
+-- What stands at a position of a datagram, in the words of document 01 ("Messages in a datagram", and the numbers of a step) and of
+-- document 02's K1 and K3: what the claims hold a step against.
 use mathlib.Core.Path.{_≡_}
 use mathlib.Core.List.{List}
-use Prim.Native.Nat.{ℕ, _+_, _*_, _<_, _≤_}
+use Prim.Native.Nat.{ℕ, _+_, _-_, _*_, _<_, _≤_}
 use lib.ListN.{length, getD}
+use Rattle.answers.specs.Numbers.{smallLength, fewLeft, overrun}
 
 abbrev pub byteAt : List ℕ → ℕ → ℕ
 byteAt datagram place = getD datagram place 0
@@ -44,15 +45,26 @@ pub record Begins (datagram : List ℕ) (place : ℕ) : Type 0 where
 abbrev pub totalAt : List ℕ → ℕ → ℕ
 totalAt datagram place = byteAt datagram (place + 1) * 256 + byteAt datagram (place + 2)
 
--- fewer than 3 bytes left, length below 7, or message past the end
-pub data Broken (datagram : List ℕ) (place : ℕ) : Type 0 where
-  too-few : length datagram < place + 3 → Broken datagram place
-  too-small : totalAt datagram place < 7 → Broken datagram place
-  too-long : length datagram < place + totalAt datagram place → Broken datagram place
+-- the three lies of a message: fewer than 3 bytes left; length below 7; past the end
+abbrev pub FewLeft : List ℕ → ℕ → Type 0
+FewLeft datagram place = length datagram < place + 3
 
--- a message begins that is so broken
-abbrev pub BrokenAt : List ℕ → ℕ → Type 0
-BrokenAt datagram place = Begins datagram place × Broken datagram place
+abbrev pub SmallLength : List ℕ → ℕ → Type 0
+SmallLength datagram place = totalAt datagram place < 7
+
+abbrev pub Overrun : List ℕ → ℕ → Type 0
+Overrun datagram place = length datagram < place + totalAt datagram place
+
+-- they are tested in this order, so each is told where none before it is: its number, and how many bytes are missing
+pub data Tells (datagram : List ℕ) (place : ℕ) : ℕ → ℕ → Type 0 where
+  few-left : FewLeft datagram place → Tells datagram place fewLeft 0
+  small-length : (FewLeft datagram place → ⊥) → SmallLength datagram place → Tells datagram place smallLength 0
+  overruns : (FewLeft datagram place → ⊥) → (SmallLength datagram place → ⊥) → Overrun datagram place
+      → Tells datagram place overrun (place + totalAt datagram place - length datagram)
+
+-- a message begins that tells a lie
+abbrev pub LieAt : List ℕ → ℕ → ℕ → ℕ → Type 0
+LieAt datagram place number missing = Begins datagram place × Tells datagram place number missing
 
 -- a message of a total length starts at a place: it is as long as it declares, at least 7, and ends inside the datagram
 pub record Whole (datagram : List ℕ) (place total : ℕ) : Type 0 where

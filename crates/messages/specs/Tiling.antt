@@ -3,10 +3,10 @@ use mathlib.Core.Path.{_≡_}
 use mathlib.Core.List.{List, [], _∷_, _++_}
 use Prim.Native.Nat.{ℕ, _+_, _-_, _≤_}
 use lib.ListN.{length, take, drop, replicate}
-use Rattle.answers.specs.Numbers.{brokenMessage, brokenFill}
+use Rattle.answers.specs.Numbers.{brokenFill}
 use Rattle.messages.specs.declared.Step.{Step}
-use Rattle.messages.specs.Places.{PassedOver, Behind, NoneLeft, Spoilt, BrokenAt, Whole}
-use Rattle.messages.specs.Step.{refused, finished, message}
+use Rattle.messages.specs.Places.{PassedOver, Behind, NoneLeft, Spoilt, LieAt, Whole}
+use Rattle.messages.specs.Step.{refused, finished, message, lie}
 
 -- whole messages, with nothing but 81s before and between them, from one position to another
 pub data Tiles (datagram : List ℕ) : ℕ → List Step → ℕ → Type 0 where
@@ -14,11 +14,15 @@ pub data Tiles (datagram : List ℕ) : ℕ → List Step → ℕ → Type 0 wher
   next : {from start to total : ℕ} {found : List Step} → PassedOver datagram from start → Whole datagram start total → Tiles datagram (start + total) found to
       → Tiles datagram from (message start total ∷ found) to
 
+-- such messages lead to a place, with nothing but 81s behind the last one
+abbrev pub Leads : List ℕ → ℕ → List Step → ℕ → Type 0
+Leads datagram from found place = (end : ℕ) × Tiles datagram from found end × PassedOver datagram end place
+
 -- what stands behind the position where stepping ended, and the answer there
 pub data Stops (datagram : List ℕ) (position : ℕ) (last : Step) : Type 0 where
   at-end : NoneLeft datagram position → last ≡ finished → Stops datagram position last
   at-spoilt : Behind datagram position (Spoilt datagram) → last ≡ refused brokenFill → Stops datagram position last
-  at-broken : Behind datagram position (BrokenAt datagram) → last ≡ refused brokenMessage → Stops datagram position last
+  at-lie : (start number missing : ℕ) → PassedOver datagram position start → LieAt datagram start number missing → last ≡ lie number start missing → Stops datagram position last
 
 -- the messages found lie so from one position to the one where stepping ended
 pub record Tiled (datagram : List ℕ) (from : ℕ) (found : List Step) (last : Step) : Type 0 where

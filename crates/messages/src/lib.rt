@@ -1,18 +1,18 @@
-// Stepping through the messages of a datagram (document 01, "Messages in a datagram"; document 02, K1; M.2092-1, Annex 4, 4.9).
+// Stepping through the messages of a datagram (document 01, "Messages in a datagram"; document 02, K1 and K3; M.2092-1, Annex 4, 4.9).
 ghost use mathlib.Core.Path.{_≡_};
-ghost use Prim.Native.Nat.{_<_, _≤_};
-ghost use lib.Dec.{ltb};
+ghost use Prim.Native.Nat.{_-_, _<_, _≤_};
 ghost use lib.ListN.{length, getD};
 ghost use Rattle.messages.specs.Fill.{onlyZeros};
-ghost use Rattle.messages.specs.Step.{refused, finished, message, declaredLength, zerosAt, messageAt, stepMessage};
+ghost use Rattle.messages.specs.Step.{refused, finished, message, lie, declaredLength, zerosAt, messageAt, stepMessage};
 ghost use Rattle.messages.specs.working.Turn.{Says};
 
-// What a step answers: where a message starts and its length.
+// What a step answers: where a message starts and its length, and how many bytes are missing of one that runs past the end.
 #[repr(C)]
 pub struct Step {
     pub status: u32,
     pub start: u64,
     pub length: u64,
+    pub missing: u64,
 }
 
 // What a step of a bounded number of turns comes to: its answer, or the place behind the fill that it passed over.
@@ -24,26 +24,6 @@ enum Turn {
 // How deep the step and the fill call each other before the loop goes on: a long run of fill must not overrun the stack.
 const TURNS: usize = 16;
 
-fn refuse(status: u32) -> Step
-    ensures { λ r. ⌜ r ≡ refused status ⌝ }
-{
-    Step {
-        status,
-        start: 0,
-        length: 0,
-    }
-}
-
-fn finished() -> Step
-    ensures { λ r. ⌜ r ≡ finished ⌝ }
-{
-    Step {
-        status: 0,
-        start: 0,
-        length: 0,
-    }
-}
-
 fn message(start: usize, total: usize) -> Step
     ensures { λ r. ⌜ r ≡ message start total ⌝ }
 {
@@ -51,7 +31,33 @@ fn message(start: usize, total: usize) -> Step
         status: 0,
         start: start as u64,
         length: total as u64,
+        missing: 0,
     }
+}
+
+fn finished() -> Step
+    ensures { λ r. ⌜ r ≡ finished ⌝ }
+{
+    message(0, 0)
+}
+
+// A message that lies is refused with its place and with the bytes that are missing.
+fn lie(status: u32, place: usize, missing: usize) -> Step
+    ensures { λ r. ⌜ r ≡ lie status place missing ⌝ }
+{
+    Step {
+        status,
+        start: place as u64,
+        length: 0,
+        missing: missing as u64,
+    }
+}
+
+// All else is refused with zeros.
+fn refuse(status: u32) -> Step
+    ensures { λ r. ⌜ r ≡ refused status ⌝ }
+{
+    lie(status, 0, 0)
 }
 
 // Whether all of these bytes are 0.
@@ -87,11 +93,14 @@ fn declared_length(left: &[u8]) -> usize
     high * 256 + low
 }
 
-// Whether a message of this total length runs past the end. It is compared with what is left: added to a position it could wrap.
-fn past_end(total: usize, left: &[u8]) -> bool
-    ensures { λ r. ⌜ r ≡ ltb (length (now (left .entry))) total ⌝ }
+// How many bytes of a message of this total length lie past the end. It is compared with what is left: added to a position it could wrap.
+fn missing(total: usize, left: &[u8]) -> usize
+    ensures { λ r. ⌜ r ≡ total - length (now (left .entry)) ⌝ }
 {
-    total > left.len()
+    if total > left.len() {
+        return total - left.len();
+    }
+    0
 }
 
 // Where a message begins.
@@ -99,14 +108,15 @@ fn message_at(position: usize, left: &[u8]) -> Step
     ensures { λ r. ⌜ r ≡ messageAt position (now (left .entry)) ⌝ }
 {
     if left.len() < 3 {
-        return refuse(9);
+        return lie(11, position, 0);
     }
     let total = declared_length(left);
+    let lacking = missing(total, left);
     if total < 7 {
-        return refuse(9);
+        return lie(9, position, 0);
     }
-    if past_end(total, left) {
-        return refuse(9);
+    if lacking > 0 {
+        return lie(12, position, lacking);
     }
     message(position, total)
 }
