@@ -145,13 +145,15 @@ static void measure_parts(uint32_t link, size_t burst) {
 }
 
 /* Steps over fill, to each thing that may stand behind it: the end, a message, the zero fill, one that is spoilt, a message past the
-   end, and too few bytes for one. The step goes through fill in turns: runs of every length up to LONGEST_RUN end in each of them. */
+   end, too few bytes for one, and one of too small a length. The step goes through fill in turns: runs of every length up to
+   LONGEST_RUN end in each of them. */
 static void measure_steps(void) {
     enum { LONGEST_RUN = 256 };
     static const struct {
         size_t length;
         uint8_t bytes[7];
-    } endings[] = {{0, {0}}, {7, {74, 0, 7, 0, 0, 0, 1}}, {1, {0}}, {2, {0, 81}}, {7, {74, 3, 132, 0, 0, 0, 1}}, {2, {74, 0}}};
+    } endings[] = {{0, {0}}, {7, {74, 0, 7, 0, 0, 0, 1}}, {1, {0}}, {2, {0, 81}}, {7, {74, 3, 132, 0, 0, 0, 1}}, {2, {74, 0}},
+                   {3, {74, 0, 6}}};
     for (size_t run = 0; run <= LONGEST_RUN; run++) {
         memset(datagram, 81, run);
         for (size_t n = 0; n < sizeof endings / sizeof *endings; n++) {

@@ -1,6 +1,7 @@
 /* Holds every name, size and function of the header to the archive. Compiled as C and as C++; the header comes first, so that it
    stands alone. The last line counts, 'N passed, M failed'. */
 #include "decklewren.h"
+#include <assert.h>
 #include <stdio.h>
 #include <string.h>
 
@@ -26,6 +27,16 @@ static const sizes links[] = {DECKLEWREN_LINKS(SIZES)};
 static const sizes slot_links[] = {DECKLEWREN_SLOT_LINKS(BURST)};
 enum { LINKS = sizeof links / sizeof *links, SLOT_LINKS = sizeof slot_links / sizeof *slot_links };
 
+/* A step is as long as the archive writes it, and its fields stand there and are as wide. Held while compiling: behind a shorter
+   struct the archive would write over what is not its own. */
+#define FIELD(name, place, size) \
+    static_assert(offsetof(decklewren_step, name) == place && sizeof(((decklewren_step *)0)->name) == size, #name);
+FIELD(status, 0, 4)
+FIELD(start, 8, 8)
+FIELD(length, 16, 8)
+FIELD(missing, 24, 8)
+static_assert(sizeof(decklewren_step) == 32, "bytes of a step");
+
 static uint8_t datagram[DECKLEWREN_HELD_MOST + 1], bits[DECKLEWREN_IMAGE_MOST + DECKLEWREN_BURST_MOST];
 
 /* Each number that document 01 gives, by a request that it is the answer to. */
@@ -44,13 +55,36 @@ static void check_word_numbers(void) {
 }
 
 static void check_other_numbers(void) {
-    const uint8_t message[8] = {74, 0, 9, 0, 0, 0, 1, 81}, fill[2] = {0, 1};
     memset(bits, 0, sizeof bits);
     expect("NO_TRAINING", 0, DECKLEWREN_NO_TRAINING, decklewren_read_slot(bits, 480, datagram, 32).status);
     expect("NO_BLOCK", 0, DECKLEWREN_NO_BLOCK, decklewren_read_block(5, bits, 394, datagram, 32).status);
-    expect("PAST_END", 0, DECKLEWREN_PAST_END, decklewren_step_message(message, sizeof message, 9).status);
-    expect("BROKEN_MESSAGE", 0, DECKLEWREN_BROKEN_MESSAGE, decklewren_step_message(message, sizeof message, 0).status);
-    expect("BROKEN_FILL", 0, DECKLEWREN_BROKEN_FILL, decklewren_step_message(fill, sizeof fill, 0).status);
+}
+
+/* Each number of a step, with what comes with it: the place of a message with 9, 11, 12, the missing bytes with 12 alone. */
+static void check_steps(void) {
+    static const struct {
+        uint32_t status;
+        size_t position;
+        uint64_t start, length, missing;
+        size_t count;
+        uint8_t bytes[8];
+    } steps[] = {
+        {DECKLEWREN_DONE, 0, 1, 7, 0, 8, {81, 74, 0, 7, 0, 0, 0, 1}},
+        {DECKLEWREN_DONE, 1, 0, 0, 0, 3, {74, 81, 0}},
+        {DECKLEWREN_PAST_END, 3, 0, 0, 0, 2, {81, 1}},
+        {DECKLEWREN_SMALL_LENGTH, 1, 2, 0, 0, 5, {74, 81, 1, 0, 6}},
+        {DECKLEWREN_BROKEN_FILL, 1, 0, 0, 0, 4, {74, 81, 0, 1}},
+        {DECKLEWREN_FEW_LEFT, 0, 1, 0, 0, 3, {81, 1, 0}},
+        {DECKLEWREN_OVERRUN, 0, 0, 0, 1, 8, {74, 0, 9, 0, 0, 0, 1, 81}},
+        {DECKLEWREN_OVERRUN, 0, 2, 0, 65532, 5, {81, 81, 1, 255, 255}},
+    };
+    for (unsigned n = 0; n < sizeof steps / sizeof *steps; n++) {
+        decklewren_step step = decklewren_step_message(steps[n].bytes, steps[n].count, steps[n].position);
+        expect("status of step", n, steps[n].status, step.status);
+        expect("start of step", n, steps[n].start, step.start);
+        expect("length of step", n, steps[n].length, step.length);
+        expect("missing of step", n, steps[n].missing, step.missing);
+    }
 }
 
 /* A link holds just so many bytes, and its image and its datagram need just so much room. */
@@ -125,7 +159,7 @@ static void check_parts(void) {
 
 /* Every status has words of its own, and a number that is none has those of no status. */
 static void check_words(void) {
-    for (uint32_t status = 0; status <= 11; status++) {
+    for (uint32_t status = 0; status <= 13; status++) {
         for (uint32_t other = 0; other < status; other++) {
             int same = strcmp(decklewren_status_text(status), decklewren_status_text(other)) == 0;
             expect("words shared with another status by", status, 0, (uint64_t)same);
@@ -133,7 +167,7 @@ static void check_words(void) {
     }
 #define WORDS(name, number, text) expect("words of", number, 0, (uint64_t)strcmp(decklewren_status_text(name), text));
     DECKLEWREN_STATUSES(WORDS)
-    expect("words of no status", 0, 0, (uint64_t)strcmp(decklewren_status_text(11), decklewren_status_text(UINT32_MAX)));
+    expect("words of no status", 0, 0, (uint64_t)strcmp(decklewren_status_text(13), decklewren_status_text(UINT32_MAX)));
 }
 
 static void check_version(void) {
@@ -173,6 +207,7 @@ static void check_most(void) {
 int main(void) {
     check_word_numbers();
     check_other_numbers();
+    check_steps();
     for (size_t n = 0; n < LINKS; n++) check_link(links[n]);
     for (size_t n = 0; n < SLOT_LINKS; n++) check_slot_link(slot_links[n]);
     check_lists();

@@ -34,6 +34,15 @@ static void show_bits(const uint8_t *bits, size_t count) {
     }
 }
 
+/* Shows how a walk that came to this position ends. A message that lies has its own place, which is never before the position. */
+static void show_end(decklewren_step last, size_t position) {
+    unsigned place = (unsigned)(last.start > position ? last.start : position);
+    const char *words = last.status == DECKLEWREN_DONE ? "finished" : decklewren_status_text(last.status);
+    printf("  at %u: %s, status %u", place, words, (unsigned)last.status);
+    if (last.status == DECKLEWREN_OVERRUN) printf(", %u bytes missing", (unsigned)last.missing);
+    printf("\n");
+}
+
 /* Shows every message of a datagram in turn with its text, as docs/MESSAGES.md walks one, and how the walk ends. */
 static void show_messages(const uint8_t *datagram, size_t datagram_len) {
     size_t position = 0;
@@ -46,7 +55,7 @@ static void show_messages(const uint8_t *datagram, size_t datagram_len) {
         position = (size_t)(step.start + step.length);
         step = decklewren_step_message(datagram, datagram_len, position);
     }
-    printf("  at %u: %s, status %u\n", (unsigned)position, step.status == 0 ? "finished" : "refused", (unsigned)step.status);
+    show_end(step, position);
 }
 
 /* Writes the burst of a datagram, shows what was answered and answers how many bits it has. */

@@ -65,7 +65,7 @@ static void check_null_elsewhere(void) {
     expect("read_block, no such link", 4, DECKLEWREN_NOT_OFFERED, decklewren_read_block(4, NULL, 0, NULL, 0).status);
     expect("write_slot, no such link", 8, DECKLEWREN_NOT_OFFERED, decklewren_write_slot(8, NULL, 0, NULL, 0).status);
     decklewren_step step = decklewren_step_message(NULL, 0, 0);
-    expect("step_message at 0, finished", 0, DECKLEWREN_DONE, step.status + step.start + step.length);
+    expect("step_message at 0, finished", 0, DECKLEWREN_DONE, step.status + step.start + step.length + step.missing);
     expect("step_message at 1", 0, DECKLEWREN_PAST_END, decklewren_step_message(NULL, 0, 1).status);
     expect("step_message at the largest", 0, DECKLEWREN_PAST_END, decklewren_step_message(NULL, 0, SIZE_MAX).status);
 }

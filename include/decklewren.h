@@ -7,7 +7,8 @@
    status is 0 (done) or the number of a refusal; only decklewren_take_part, which refuses nothing, answers nothing.
 
    A REFUSAL answers its number, 0 for all else, and changes no byte of the buffers; a state that was asked is fresh all the same.
-   Each call names its refusals in the order in which they are tried: where several apply, the first of that list is answered.
+   One exception: 11, 9 and 12 of a step also answer the place of the message, and 12 the number of its missing bytes. Each call
+   names its refusals in the order in which they are tried: where several apply, the first of that list is answered.
 
    WHAT A CALLER KEEPS TO. A pointer is valid for the length that follows it, for writing where it is not const; where the length
    is 0 it may be NULL. The two pointers to a state, count and bits, are never NULL: both are valid for the sizes in decklewren_parts,
@@ -43,17 +44,17 @@ extern "C" {
 
 /* The version, here and nowhere else. MAJOR rises where a program must change or be compiled again (a call, a struct or a name that
    was there has changed or is gone), MINOR where something is new or a call answers otherwise, PATCH with every other change. */
-#define DECKLEWREN_VERSION_MAJOR 0
-#define DECKLEWREN_VERSION_MINOR 4
+#define DECKLEWREN_VERSION_MAJOR 1
+#define DECKLEWREN_VERSION_MINOR 0
 #define DECKLEWREN_VERSION_PATCH 0
 
-/* The same as text: "0.4.0" is a literal, made of the three numbers. */
+/* The same as text: "1.0.0" is a literal, made of the three numbers. */
 #define DECKLEWREN_TEXT_OF(major, minor, patch) #major "." #minor "." #patch
 #define DECKLEWREN_TEXT(major, minor, patch) DECKLEWREN_TEXT_OF(major, minor, patch)
 #define DECKLEWREN_VERSION DECKLEWREN_TEXT(DECKLEWREN_VERSION_MAJOR, DECKLEWREN_VERSION_MINOR, DECKLEWREN_VERSION_PATCH)
 
-/* The numbers a caller gets back as status (document 01, the table of that name; 10 by document 02, K1): X(name, number, what it
-   says). */
+/* The numbers a caller gets back as status (document 01, the table of that name; 10 by document 02, K1, and 9, 11 and 12 by K3):
+   X(name, number, what it says). */
 #define DECKLEWREN_STATUSES(X)                                                                                                       \
     X(DECKLEWREN_DONE, 0, "done")                                                                                                    \
     X(DECKLEWREN_NOT_OFFERED, 1, "link not offered; number above 63 for a link word; slot burst not of link 5, 6, 7")                \
@@ -64,8 +65,10 @@ extern "C" {
     X(DECKLEWREN_NO_WORD, 6, "no code word within seven")                                                                            \
     X(DECKLEWREN_NO_BLOCK, 7, "no valid block's image within one")                                                                   \
     X(DECKLEWREN_PAST_END, 8, "position past the end")                                                                               \
-    X(DECKLEWREN_BROKEN_MESSAGE, 9, "fewer than 3 bytes left, length below 7, or message past the end")                              \
-    X(DECKLEWREN_BROKEN_FILL, 10, "a byte other than 0 after a 0")
+    X(DECKLEWREN_SMALL_LENGTH, 9, "length below 7")                                                                                  \
+    X(DECKLEWREN_BROKEN_FILL, 10, "a byte other than 0 after a 0")                                                                   \
+    X(DECKLEWREN_FEW_LEFT, 11, "fewer than 3 bytes left")                                                                            \
+    X(DECKLEWREN_OVERRUN, 12, "message past the end")
 
 /* The links that are offered (document 01, "The links"): X(link, bytes of a datagram that it holds, N bits of its image). Images
    differ in two things from M.2092-1, because document 01 says so and outranks it: link 20 has 32 check bits in the place of 16, and
@@ -120,7 +123,10 @@ enum {
 #undef DECKLEWREN_NAME_BURST
 
 /* Bytes of stack that a call takes below its caller's, on any link and any input: measured on the archive, return address and red
-   zone counted, and rounded up. Those of blocks and slot bursts leave 500 bytes for memcpy and memset; the other calls use neither. */
+   zone counted, and rounded up. Those of blocks and slot bursts leave 500 bytes for memcpy and memset; the other calls use neither.
+   The figures hold for programs that are linked statically or with -z now, or that have called both functions before. Where a
+   dynamic linker binds memcpy or memset at its first call, the linker's own work comes on top and goes past the figures: 27880 bytes
+   were measured for a first decklewren_read_block. */
 enum {
     DECKLEWREN_STACK_WRITE_WORD = 128,
     DECKLEWREN_STACK_READ_WORD = 128,
@@ -133,7 +139,7 @@ enum {
     DECKLEWREN_STACK_STEP_MESSAGE = 1536
 };
 
-/* A status in words, for a log or a screen; document 01 gives no number above 10. */
+/* A status in words, for a log or a screen; there is no number above 12. */
 static inline const char *decklewren_status_text(uint32_t status) {
     switch (status) {
 #define DECKLEWREN_CASE(name, number, text) case name: return text;
@@ -211,11 +217,14 @@ typedef struct {
     uint8_t bits[DECKLEWREN_BURST_MOST];
 } decklewren_parts;
 
-/* What a step through a datagram answers: where a message starts and its total length; both are 0 where no more follow. */
+/* What a step through a datagram answers: where a message starts and its total length; both are 0 where no more follow. With 11, 9
+   and 12 start is the place of the message that is refused, and length 0. With 12 missing is the number of bytes that the message
+   declares past the end, start + declared length - datagram_len; it is 0 in every other answer. */
 typedef struct {
     uint32_t status;
     uint64_t start;
     uint64_t length;
+    uint64_t missing;
 } decklewren_step;
 
 /* Writes the link word of a number (M.2092-1, Annex 2, 1.2.3.4).
@@ -309,14 +318,18 @@ static inline decklewren_slot decklewren_parts_read(decklewren_parts *parts, uin
    fill, which goes on to the end. To walk a datagram, step from 0, each next time from start + length, until length is 0: the
    status then says whether it is finished or which refusal ended it.
    Returns:  status with the message's start and total length, or with both 0 where no more follow ("finished"); where bytes 81
-             were passed over, start lies behind the position
+             were passed over, start lies behind the position. 11, 9 and 12 come with the start of the message that is refused, and
+             12 with its missing bytes
    In:       datagram, and any position
    Out:      nothing
-   Refusals: 8 position past the end; then, behind the bytes 81 passed over, 9 fewer than 3 bytes left, length below 7, or message
-             past the end, or 10 a byte other than 0 after a 0
+   Refusals: 8 position past the end; then, behind the bytes 81 passed over, of a message 11 fewer than 3 bytes left, 9 length
+             below 7, 12 message past the end, or of the zero fill 10 a byte other than 0 after a 0
    Proved:   start + length is at most datagram_len, whatever the bytes say; a message is answered exactly where, behind bytes 81
-             alone, one begins that is as long as it declares, at least 7, and ends inside. The walk ends; between its messages lie
-             only bytes 81, and where it is finished, behind the last one lie bytes 81 and then zeros */
+             alone, one begins that is as long as it declares, at least 7, and ends inside. Each of 11, 9 and 12 is answered exactly
+             where one begins there that it is true of, and none before it in that order, with the true start, which is below
+             datagram_len, and number of missing bytes; missing is 0 in every other answer. The walk ends; between its messages lie
+             only bytes 81, and where it is finished, behind the last one lie bytes 81 and then zeros. Where it comes to a message
+             that 11, 9 or 12 is true of, and only there, it ends with that answer */
 decklewren_step decklewren_step_message(const uint8_t *datagram, size_t datagram_len, size_t position);
 
 #ifdef __cplusplus
