@@ -6,7 +6,8 @@ ghost use Rattle.messages.specs.Fill.{onlyZeros};
 ghost use Rattle.messages.specs.Step.{refused, finished, message, lie, declaredLength, zerosAt, messageAt, stepMessage};
 ghost use Rattle.messages.specs.working.Turn.{Says};
 
-// What a step answers: where a message starts and its length, and how many bytes are missing of one that runs past the end.
+// What a step answers: where a message starts, also one that lies, its length, and how many bytes are missing of one that runs past the
+// end.
 #[repr(C)]
 pub struct Step {
     pub status: u32,
@@ -35,6 +36,7 @@ fn message(start: usize, total: usize) -> Step
     }
 }
 
+// No message follows.
 fn finished() -> Step
     ensures { λ r. ⌜ r ≡ finished ⌝ }
 {
@@ -103,7 +105,7 @@ fn missing(total: usize, left: &[u8]) -> usize
     0
 }
 
-// Where a message begins.
+// Where a message begins. Its lies are told in the order 11, 9, 12.
 fn message_at(position: usize, left: &[u8]) -> Step
     ensures { λ r. ⌜ r ≡ messageAt position (now (left .entry)) ⌝ }
 {
