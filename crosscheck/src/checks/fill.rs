@@ -4,9 +4,8 @@
 use crate::harness::archive::{self, Stepped};
 use crate::harness::caller::Caller;
 use crate::harness::report::{named_tests, Given, NamedTest, Test};
-use crate::harness::requests::messages::{stepped, StepMessage};
-use crate::second::messages::{step, Step};
-use crate::second::words::Refusal;
+use crate::harness::requests::messages::{numbers, stepped, Numbers, StepMessage};
+use crate::second::messages::step;
 use crate::second::Second;
 use std::iter;
 use std::thread::{self, Builder};
@@ -17,25 +16,27 @@ pub const TESTS: &[NamedTest] = named_tests![
     archive_passes_over_16_mib_on_a_small_stack,
 ];
 
-/// What stands behind a run of 81s, and what a step that passes over the run answers: the length of
-/// the message that begins there, 0 for "finished", or a refusal.
-type Ending = (&'static [u8], Result<usize, Refusal>);
+/// What stands behind a run of 81s, and what a step that passes over the run answers.
+type Ending = (&'static [u8], Numbers);
 
-const ENDINGS: [Ending; 13] = [
-    (&[], Ok(0)),
-    (&[74, 0, 7, 0, 0, 0, 1], Ok(7)),
-    (&[74, 0, 8, 0, 0, 0, 1, 81, 81], Ok(8)),
-    (&[0], Ok(0)),
-    (&[0, 0, 0], Ok(0)),
-    (&[0, 81], Err(10)),
-    (&[0, 7], Err(10)),
-    (&[0, 74, 0, 7, 0, 0, 0, 1], Err(10)),
-    (&[74], Err(9)),
-    (&[74, 0], Err(9)),
-    (&[74, 0, 6, 0, 0, 0, 1], Err(9)),
-    (&[74, 0, 8, 0, 0, 0, 1], Err(9)),
-    (&[74, 3, 132, 0, 0, 0, 1, 0, 0, 0, 0], Err(9)),
-];
+/// The endings behind a run, and what is answered where they start at this place.
+fn endings(start: usize) -> [Ending; 13] {
+    [
+        (&[], [0, 0, 0, 0]),
+        (&[74, 0, 7, 0, 0, 0, 1], [0, start, 7, 0]),
+        (&[74, 0, 8, 0, 0, 0, 1, 81, 81], [0, start, 8, 0]),
+        (&[0], [0, 0, 0, 0]),
+        (&[0, 0, 0], [0, 0, 0, 0]),
+        (&[0, 81], [10, 0, 0, 0]),
+        (&[0, 7], [10, 0, 0, 0]),
+        (&[0, 74, 0, 7, 0, 0, 0, 1], [10, 0, 0, 0]),
+        (&[74], [11, start, 0, 0]),
+        (&[74, 0], [11, start, 0, 0]),
+        (&[74, 0, 6, 0, 0, 0, 1], [9, start, 0, 0]),
+        (&[74, 0, 8, 0, 0, 0, 1], [12, start, 0, 1]),
+        (&[74, 3, 132, 0, 0, 0, 1, 0, 0, 0, 0], [12, start, 0, 889]),
+    ]
+}
 
 /// The longest of the runs that are stepped into at every position.
 const LONGEST: usize = 300;
@@ -44,21 +45,13 @@ fn datagram_of(run: usize, ending: &[u8]) -> Vec<u8> {
     [&vec![81; run][..], ending].concat()
 }
 
-/// The answer of a step that passes over all 81s before this start.
-fn answer_at(start: usize, ending: Result<usize, Refusal>) -> Result<Step, Refusal> {
-    ending.map(|length| match length {
-        0 => Step::Finished,
-        _ => Step::Message { start, length },
-    })
-}
-
 fn second_passes_over_runs_of_81(_: &Given, test: &mut Test) {
     for run in 0..=LONGEST {
-        for (ending, answer) in ENDINGS {
+        for (ending, answer) in endings(run) {
             let datagram = datagram_of(run, ending);
             for position in 0..=run {
                 let call = || format!("step at {position}, {run} bytes 81 and {ending:?}");
-                test.case(call, answer_at(run, answer), [step(&datagram, position)]);
+                test.case(call, answer, [numbers(step(&datagram, position))]);
             }
         }
     }
@@ -69,10 +62,10 @@ fn archive_passes_over_runs_of_81(given: &Given, test: &mut Test) {
     let second = Second::read(&given.tables);
     let mut caller = Caller::new(test);
     for run in 0..=LONGEST {
-        for (ending, answer) in ENDINGS {
+        for (ending, answer) in endings(run) {
             let datagram = datagram_of(run, ending);
             for position in 0..=run {
-                caller.expect(StepMessage(&datagram, position), answer_at(run, answer));
+                caller.expect(StepMessage(&datagram, position), answer);
             }
             for position in run + 1..=datagram.len() + 1 {
                 caller.compare(&second, StepMessage(&datagram, position));
@@ -85,11 +78,11 @@ fn archive_passes_over_runs_of_81(given: &Given, test: &mut Test) {
 /// that ends the process, and so the test fails.
 fn archive_passes_over_16_mib_on_a_small_stack(_: &Given, test: &mut Test) {
     let run = 16 << 20;
-    for (ending, answer) in ENDINGS {
+    for (ending, answer) in endings(run) {
         let mut datagram = datagram_of(run, ending);
         let call = || format!("step at 0, {run} bytes 81 and {ending:?}, 64 KiB of stack");
         let calls = iter::once_with(|| step_on_a_small_stack(&mut datagram));
-        test.case(call, stepped(answer_at(run, answer)), calls);
+        test.case(call, stepped(answer), calls);
     }
 }
 

@@ -4,10 +4,10 @@
 use crate::harness::caller::Caller;
 use crate::harness::guarded::ROOM;
 use crate::harness::report::{named_tests, Given, NamedTest, Test};
-use crate::harness::requests::messages::StepMessage;
+use crate::harness::requests::messages::{numbers, Numbers, StepMessage};
+use crate::harness::samples::FAR;
 use crate::harness::sent::some_datagram;
 use crate::second::messages::{step, Step};
-use crate::second::words::Refusal;
 use crate::second::Second;
 
 pub const TESTS: &[NamedTest] = named_tests![
@@ -18,57 +18,55 @@ pub const TESTS: &[NamedTest] = named_tests![
     archive_steps_in_all_datagrams_of_0_1_7_81,
     archive_steps_in_all_datagrams_of_0_7_8_81,
     archive_steps_in_all_datagrams_of_eight_bytes,
+    archive_steps_in_all_datagrams_of_seven_bytes,
+    archive_steps_in_all_datagrams_of_any_two_bytes,
     archive_steps_in_random_and_lying_datagrams,
     archive_refuses_the_lie_of_900_bytes,
     archive_steps_in_long_datagrams,
     archive_steps_on_read_only_pages,
 ];
 
-/// A datagram, a position, and what a step answers.
-type StepCase = (Vec<u8>, usize, Result<Step, Refusal>);
+/// A datagram, a position, and what a step answers: status, start, length, missing bytes.
+type StepCase = (Vec<u8>, usize, Numbers);
 
-fn message(start: usize, length: usize) -> Result<Step, Refusal> {
-    Ok(Step::Message { start, length })
-}
-
-/// Document 01's P11 and P12.
+/// Document 01's P11 and P12, the last two as document 02's K3 has them.
 fn p11_and_p12() -> Vec<StepCase> {
     let with_length = |length| vec![74, 0, length, 0, 0, 0, 1, 81];
     vec![
-        (with_length(7), 0, message(0, 7)),
-        (with_length(7), 7, Ok(Step::Finished)),
-        (with_length(7), 9, Err(8)),
-        (with_length(8), 0, message(0, 8)),
-        (with_length(9), 0, Err(9)),
-        (with_length(6), 0, Err(9)),
+        (with_length(7), 0, [0, 0, 7, 0]),
+        (with_length(7), 7, [0, 0, 0, 0]),
+        (with_length(7), 9, [8, 0, 0, 0]),
+        (with_length(8), 0, [0, 0, 8, 0]),
+        (with_length(9), 0, [12, 0, 0, 1]),
+        (with_length(6), 0, [9, 0, 0, 0]),
     ]
 }
 
-/// Of each kind of position one or some; refusal 8 comes before 9 and 10.
+/// Of each kind of position one or some; refusal 8 comes before all others.
 fn typed_cases() -> Vec<StepCase> {
     vec![
-        (vec![], 0, Ok(Step::Finished)),
-        (vec![], 1, Err(8)),
-        (vec![0], 0, Ok(Step::Finished)),
-        (vec![0, 81, 0, 0], 2, Ok(Step::Finished)),
-        (vec![0, 1], 0, Err(10)),
-        (vec![0, 0, 74], 0, Err(10)),
-        (vec![0, 0, 74], 3, Ok(Step::Finished)),
-        (vec![0, 0, 74], 4, Err(8)),
-        (vec![0, 0, 7, 9, 9, 9, 9], 0, Err(10)),
-        (vec![74], 0, Err(9)),
-        (vec![74, 0], 0, Err(9)),
-        (vec![74, 0, 7], 0, Err(9)),
-        (vec![74, 0, 0], 0, Err(9)),
-        (vec![1, 0, 7, 9, 9, 9, 9], 0, message(0, 7)),
-        (vec![1, 0, 7, 9, 9, 9], 0, Err(9)),
-        (vec![1, 1, 7, 9, 9, 9, 9], 0, Err(9)),
-        (vec![1, 0, 6, 9, 9, 9, 9], 0, Err(9)),
-        (vec![5, 5, 2, 0, 8, 1, 1, 1, 1, 1], 2, message(2, 8)),
-        (vec![5, 5, 2, 0, 9, 1, 1, 1, 1, 1], 2, Err(9)),
-        (vec![5, 5, 2, 0, 8, 1, 1, 1, 1, 1], 10, Ok(Step::Finished)),
-        (vec![5, 5, 2, 0, 8, 1, 1, 1, 1, 1], 11, Err(8)),
-        (vec![5, 5, 2], usize::MAX, Err(8)),
+        (vec![], 0, [0, 0, 0, 0]),
+        (vec![], 1, [8, 0, 0, 0]),
+        (vec![0], 0, [0, 0, 0, 0]),
+        (vec![0, 81, 0, 0], 2, [0, 0, 0, 0]),
+        (vec![0, 1], 0, [10, 0, 0, 0]),
+        (vec![0, 0, 74], 0, [10, 0, 0, 0]),
+        (vec![0, 0, 74], 3, [0, 0, 0, 0]),
+        (vec![0, 0, 74], 4, [8, 0, 0, 0]),
+        (vec![0, 0, 7, 9, 9, 9, 9], 0, [10, 0, 0, 0]),
+        (vec![74], 0, [11, 0, 0, 0]),
+        (vec![74, 0], 0, [11, 0, 0, 0]),
+        (vec![74, 0, 7], 0, [12, 0, 0, 4]),
+        (vec![74, 0, 0], 0, [9, 0, 0, 0]),
+        (vec![1, 0, 7, 9, 9, 9, 9], 0, [0, 0, 7, 0]),
+        (vec![1, 0, 7, 9, 9, 9], 0, [12, 0, 0, 1]),
+        (vec![1, 1, 7, 9, 9, 9, 9], 0, [12, 0, 0, 256]),
+        (vec![1, 0, 6, 9, 9, 9, 9], 0, [9, 0, 0, 0]),
+        (vec![5, 5, 2, 0, 8, 1, 1, 1, 1, 1], 2, [0, 2, 8, 0]),
+        (vec![5, 5, 2, 0, 9, 1, 1, 1, 1, 1], 2, [12, 2, 0, 1]),
+        (vec![5, 5, 2, 0, 8, 1, 1, 1, 1, 1], 10, [0, 0, 0, 0]),
+        (vec![5, 5, 2, 0, 8, 1, 1, 1, 1, 1], 11, [8, 0, 0, 0]),
+        (vec![5, 5, 2], usize::MAX, [8, 0, 0, 0]),
     ]
 }
 
@@ -76,25 +74,25 @@ fn typed_cases() -> Vec<StepCase> {
 fn cases_of_k1() -> Vec<StepCase> {
     let padded = || vec![74, 0, 7, 0, 0, 0, 1, 81, 75, 0, 7, 0, 0, 0, 2, 81, 81, 0];
     vec![
-        (vec![81], 0, Ok(Step::Finished)),
-        (vec![81], 2, Err(8)),
-        (vec![81, 0], 0, Ok(Step::Finished)),
-        (vec![81, 0, 81], 0, Err(10)),
-        (vec![81, 0, 81], 1, Err(10)),
-        (vec![81, 0, 81], 2, Ok(Step::Finished)),
-        (vec![0, 81], 0, Err(10)),
-        (vec![81, 1], 0, Err(9)),
-        (vec![81, 81, 82], 1, Err(9)),
-        (vec![81, 0, 7, 9, 9, 9, 9], 0, Err(10)),
-        (vec![81, 81, 74, 0, 7, 0, 0, 0, 1], 0, message(2, 7)),
-        (vec![81, 81, 74, 0, 7, 0, 0, 0, 1], 1, message(2, 7)),
-        (vec![81, 81, 74, 0, 8, 0, 0, 0, 1], 0, Err(9)),
-        (vec![81, 81, 74, 0, 6, 0, 0, 0, 1], 0, Err(9)),
-        (padded(), 0, message(0, 7)),
-        (padded(), 7, message(8, 7)),
-        (padded(), 8, message(8, 7)),
-        (padded(), 15, Ok(Step::Finished)),
-        (padded(), 19, Err(8)),
+        (vec![81], 0, [0, 0, 0, 0]),
+        (vec![81], 2, [8, 0, 0, 0]),
+        (vec![81, 0], 0, [0, 0, 0, 0]),
+        (vec![81, 0, 81], 0, [10, 0, 0, 0]),
+        (vec![81, 0, 81], 1, [10, 0, 0, 0]),
+        (vec![81, 0, 81], 2, [0, 0, 0, 0]),
+        (vec![0, 81], 0, [10, 0, 0, 0]),
+        (vec![81, 1], 0, [11, 1, 0, 0]),
+        (vec![81, 81, 82], 1, [11, 2, 0, 0]),
+        (vec![81, 0, 7, 9, 9, 9, 9], 0, [10, 0, 0, 0]),
+        (vec![81, 81, 74, 0, 7, 0, 0, 0, 1], 0, [0, 2, 7, 0]),
+        (vec![81, 81, 74, 0, 7, 0, 0, 0, 1], 1, [0, 2, 7, 0]),
+        (vec![81, 81, 74, 0, 8, 0, 0, 0, 1], 0, [12, 2, 0, 1]),
+        (vec![81, 81, 74, 0, 6, 0, 0, 0, 1], 0, [9, 2, 0, 0]),
+        (padded(), 0, [0, 0, 7, 0]),
+        (padded(), 7, [0, 8, 7, 0]),
+        (padded(), 8, [0, 8, 7, 0]),
+        (padded(), 15, [0, 0, 0, 0]),
+        (padded(), 19, [8, 0, 0, 0]),
     ]
 }
 
@@ -106,14 +104,14 @@ fn known_cases() -> Vec<StepCase> {
 fn second_steps_hold_p11_and_p12(_: &Given, test: &mut Test) {
     for (datagram, position, answer) in p11_and_p12() {
         let call = || format!("step at {position}, datagram {datagram:?}");
-        test.case(call, answer, [step(&datagram, position)]);
+        test.case(call, answer, [numbers(step(&datagram, position))]);
     }
 }
 
 fn second_steps_or_refuses(_: &Given, test: &mut Test) {
     for (datagram, position, answer) in known_cases() {
         let call = || format!("step at {position}, datagram {datagram:?}");
-        test.case(call, answer, [step(&datagram, position)]);
+        test.case(call, answer, [numbers(step(&datagram, position))]);
     }
 }
 
@@ -131,25 +129,6 @@ fn archive_steps_or_refuses(_: &Given, test: &mut Test) {
     }
 }
 
-/// Far past the end of any datagram; the last three with a place in a datagram in their low bits.
-const FAR: [usize; 8] = [
-    usize::MAX,
-    usize::MAX - 1,
-    usize::MAX - 2,
-    usize::MAX - 7,
-    1 << 63,
-    1 << 32,
-    (1 << 32) + 1,
-    65_536,
-];
-
-/// A step at every position from 0 to one past the end, and at far ones.
-fn compare_at_all_positions(caller: &mut Caller, second: &Second, datagram: &[u8]) {
-    for position in (0..=datagram.len() + 1).chain(FAR) {
-        caller.compare(second, StepMessage(datagram, position));
-    }
-}
-
 /// Every datagram of this length over these bytes.
 fn all_datagrams(length: u32, bytes: &[u8]) -> impl Iterator<Item = Vec<u8>> + '_ {
     let count = bytes.len();
@@ -159,37 +138,49 @@ fn all_datagrams(length: u32, bytes: &[u8]) -> impl Iterator<Item = Vec<u8>> + '
     })
 }
 
-/// Up to nine bytes, which two 81s and a message of 7 take, from 0 to one past the end.
-fn archive_steps_in_all_datagrams_of_0_1_7_81(given: &Given, test: &mut Test) {
+/// Holds the archive to the second implementation in every datagram of up to so many of these bytes, at
+/// every position from 0 to one past the end and at these.
+fn compare_in_all_datagrams(
+    given: &Given,
+    test: &mut Test,
+    longest: u32,
+    bytes: &[u8],
+    positions: &[usize],
+) {
     let second = Second::read(&given.tables);
     let mut caller = Caller::new(test);
-    for length in 0..=9 {
-        for datagram in all_datagrams(length, &[0, 1, 7, 81]) {
-            for position in 0..=datagram.len() + 1 {
+    for length in 0..=longest {
+        for datagram in all_datagrams(length, bytes) {
+            for position in (0..=datagram.len() + 1).chain(positions.iter().copied()) {
                 caller.compare(&second, StepMessage(&datagram, position));
             }
         }
     }
 }
 
+/// Nine bytes, which two 81s and a message of 7 take.
+fn archive_steps_in_all_datagrams_of_0_1_7_81(given: &Given, test: &mut Test) {
+    compare_in_all_datagrams(given, test, 9, &[0, 1, 7, 81], &[]);
+}
+
 fn archive_steps_in_all_datagrams_of_0_7_8_81(given: &Given, test: &mut Test) {
-    let second = Second::read(&given.tables);
-    let mut caller = Caller::new(test);
-    for length in 0..=8 {
-        for datagram in all_datagrams(length, &[0, 7, 8, 81]) {
-            compare_at_all_positions(&mut caller, &second, &datagram);
-        }
-    }
+    compare_in_all_datagrams(given, test, 8, &[0, 7, 8, 81], &FAR);
 }
 
 fn archive_steps_in_all_datagrams_of_eight_bytes(given: &Given, test: &mut Test) {
-    let second = Second::read(&given.tables);
-    let mut caller = Caller::new(test);
-    for length in 0..=4 {
-        for datagram in all_datagrams(length, &[0, 1, 6, 7, 8, 74, 81, 255]) {
-            compare_at_all_positions(&mut caller, &second, &datagram);
-        }
-    }
+    let bytes = [0, 1, 6, 7, 8, 74, 81, 255];
+    compare_in_all_datagrams(given, test, 4, &bytes, &FAR);
+}
+
+/// Lengths that are too small, past the end or both, and a message of 7.
+fn archive_steps_in_all_datagrams_of_seven_bytes(given: &Given, test: &mut Test) {
+    let bytes = [0, 1, 6, 7, 8, 81, 255];
+    compare_in_all_datagrams(given, test, 7, &bytes, &[]);
+}
+
+fn archive_steps_in_all_datagrams_of_any_two_bytes(given: &Given, test: &mut Test) {
+    let bytes: Vec<u8> = (0..=255).collect();
+    compare_in_all_datagrams(given, test, 2, &bytes, &FAR);
 }
 
 /// Walks from 0, each step where the message before ends, until it is finished or refused.
@@ -221,7 +212,7 @@ fn archive_steps_in_random_and_lying_datagrams(given: &Given, test: &mut Test) {
 }
 
 /// A datagram of link 5, 32 bytes, whose message declares 900: of every type that can begin one, at
-/// the start and behind as many 81s as leave room for its length.
+/// the start, where 868 are missing, and behind as many 81s as leave room for its length.
 fn archive_refuses_the_lie_of_900_bytes(_: &Given, test: &mut Test) {
     let mut random = test.random(32);
     let mut caller = Caller::new(test);
@@ -231,7 +222,7 @@ fn archive_refuses_the_lie_of_900_bytes(_: &Given, test: &mut Test) {
             datagram[..start].fill(81);
             datagram[start] = kind;
             datagram[start + 1..start + 3].copy_from_slice(&900u16.to_be_bytes());
-            caller.expect(StepMessage(&datagram, 0), Err(9));
+            caller.expect(StepMessage(&datagram, 0), [12, start, 0, start + 868]);
         }
     }
 }

@@ -4,6 +4,7 @@ mod blocks_reading;
 mod blocks_writing;
 mod coding;
 mod fill;
+mod lies;
 mod links;
 mod messages;
 mod outside;
@@ -16,6 +17,7 @@ mod slots_reading;
 mod slots_refusals;
 mod slots_writing;
 mod tool;
+mod tool_steps;
 mod tool_use;
 mod words;
 mod worked_burst;
@@ -35,6 +37,7 @@ pub fn all() -> Vec<NamedTest> {
         refusals::TESTS,
         messages::TESTS,
         fill::TESTS,
+        lies::TESTS,
         blocks_writing::TESTS,
         blocks_reading::TESTS,
         slots_writing::TESTS,
@@ -43,6 +46,7 @@ pub fn all() -> Vec<NamedTest> {
         parts::TESTS,
         parts_states::TESTS,
         tool::TESTS,
+        tool_steps::TESTS,
         tool_use::TESTS,
     ]
     .concat()

@@ -1,13 +1,11 @@
-//! The tests of the built command line tool: each command against the second implementation.
+//! The tests of the built command line tool: each command but step against the second implementation.
 
 use crate::harness::ordered_faults;
 use crate::harness::program::Run;
-use crate::harness::random::Random;
 use crate::harness::report::{named_tests, Given, NamedTest, Test};
 use crate::harness::samples::{burst_of, image_of, random_datagram, two_places, SLOT_SIZES};
-use crate::harness::tool::{done, hex_line, line, refused_at, refused_bits, refused_for, runs};
+use crate::harness::tool::{done, hex_line, line, refused_bits, refused_for, runs};
 use crate::second::bits::{bits, inverted};
-use crate::second::messages::{step, Step};
 use crate::second::slots::{HEAD, SLOT_LINKS, TRAINING};
 use crate::second::words::{Reading, Refusal};
 use crate::second::Second;
@@ -22,9 +20,6 @@ pub const TESTS: &[NamedTest] = named_tests![
     tool_reads_slots,
     tool_refuses_slots,
     tool_reads_slots_by_parts,
-    tool_walks_messages,
-    tool_walks_over_fill,
-    tool_steps_at_positions,
 ];
 
 /// Numbers of no link and of no link word; the last ones end in the bits of link 5.
@@ -295,133 +290,6 @@ fn tool_reads_slots_by_parts(given: &Given, test: &mut Test) {
                 let expected = slot_read(&second, &row);
                 runs(given, test, &command, &line(&row), expected);
             }
-        }
-    }
-}
-
-/// What stepping through all of a datagram is to show.
-fn walked(datagram: &[u8]) -> Run {
-    let (mut lines, mut count, mut position) = (String::new(), 0, 0);
-    loop {
-        match step(datagram, position) {
-            Ok(Step::Message { start, length }) => {
-                lines += &format!("{start} {length}\n");
-                count += 1;
-                position = start + length;
-            }
-            Ok(Step::Finished) => return done(lines, format!("count={count} finished={position}")),
-            Err(number) => return step_refused(number, datagram, position),
-        }
-    }
-}
-
-/// What a refused step is to show: how many bytes there are; or, behind the 81s passed over, where
-/// the message is and what it declares, or where the 0 is and which byte behind it is another.
-fn step_refused(number: Refusal, datagram: &[u8], position: usize) -> Run {
-    if number == 8 {
-        let got = format!("the datagram has {} bytes", datagram.len());
-        return refused_at(8, position, got);
-    }
-    let fill = datagram[position..].iter().take_while(|&&byte| byte == 81);
-    let place = position + fill.count();
-    let rest = &datagram[place..];
-    let got = match (number, rest) {
-        (10, _) => {
-            let zeros = rest.iter().take_while(|&&byte| byte == 0).count();
-            format!("the byte at {} is {}", place + zeros, rest[zeros])
-        }
-        (_, [_, high, low, ..]) => {
-            let declared = usize::from(*high) * 256 + usize::from(*low);
-            let compared = match declared < 7 {
-                true => "at least 7 are needed".to_string(),
-                false => format!("{} are left", rest.len()),
-            };
-            format!("the message declares {declared} bytes, {compared}")
-        }
-        _ => format!("{} of 3 bytes left", rest.len()),
-    };
-    refused_at(number, place, got)
-}
-
-/// Messages of up to 306 bytes with up to three 81s before, between and behind them, then zeros; the
-/// last bytes may be cut off.
-fn padded_messages(random: &mut Random) -> Vec<u8> {
-    let mut datagram = vec![81; random.below(4)];
-    for _ in 0..random.below(9) {
-        let length = 7 + random.below(300);
-        datagram.push(82 + random.below(100) as u8);
-        datagram.extend((length as u16).to_be_bytes());
-        datagram.extend(random.bytes(length - 3));
-        datagram.extend(vec![81; random.below(4)]);
-    }
-    datagram.extend(vec![0; random.below(4)]);
-    datagram.truncate(datagram.len() - random.below(3).min(datagram.len()));
-    datagram
-}
-
-/// P11 and P12, last spring's lie, and rows of random messages that end well or not.
-fn tool_walks_messages(given: &Given, test: &mut Test) {
-    let mut random = test.random(606);
-    let with_length = |length| vec![74, 0, length, 0, 0, 0, 1, 81];
-    let mut datagrams: Vec<Vec<u8>> = [7, 8, 9, 6].map(with_length).to_vec();
-    datagrams.extend([vec![], vec![81; 9], vec![0, 0, 1], vec![74, 0]]);
-    datagrams.push([&[93, 3, 132, 0, 0, 0, 1][..], &[0; 25]].concat());
-    datagrams.push(vec![74, 0, 7, 0, 0, 0, 1, 81, 0, 5]);
-    datagrams.extend((0..40).map(|_| padded_messages(&mut random)));
-    for datagram in datagrams {
-        runs(given, test, "step", &datagram, walked(&datagram));
-        let digits = hex_line(&datagram);
-        runs(given, test, "step -x", digits.as_bytes(), walked(&datagram));
-    }
-}
-
-/// Document 02's K1, with what is to be shown typed out: a message, an 81, and then what each case has.
-fn tool_walks_over_fill(given: &Given, test: &mut Test) {
-    let two = || done("0 7\n8 8\n", "count=2 finished=16".to_string());
-    let one = || done("0 7\n", "count=1 finished=7".to_string());
-    let lie = "the message declares 900 bytes, 9 are left";
-    for (behind, expected) in [
-        (&[75, 0, 8, 0, 0, 0, 2, 9][..], two()),
-        (&[75, 0, 8, 0, 0, 0, 2, 9, 81, 81, 81, 0, 0], two()),
-        (&[], one()),
-        (&[81, 0], one()),
-        (&[0, 0], one()),
-        (&[93, 3, 132, 0, 0, 0, 1, 0, 0], refused_at(9, 8, lie)),
-        (
-            &[81, 81, 93, 3, 132, 0, 0, 0, 1, 0, 0],
-            refused_at(9, 10, lie),
-        ),
-        (&[81, 75, 0], refused_at(9, 9, "2 of 3 bytes left")),
-        (&[0, 81], refused_at(10, 8, "the byte at 9 is 81")),
-        (
-            &[81, 0, 0, 75, 81],
-            refused_at(10, 9, "the byte at 11 is 75"),
-        ),
-    ] {
-        let datagram = [&[74, 0, 7, 0, 0, 0, 1, 81][..], behind].concat();
-        runs(given, test, "step", &datagram, expected);
-    }
-}
-
-/// One step, at every position of P11's datagram, of one with fill between and of ones that are
-/// refused, and past their ends.
-fn tool_steps_at_positions(given: &Given, test: &mut Test) {
-    for datagram in [
-        &[74, 0, 7, 0, 0, 0, 1, 81][..],
-        &[81, 74, 0, 7, 0, 0, 0, 1, 81, 81, 75, 0, 7, 0, 0, 0, 2, 0],
-        &[81, 81, 74, 0, 9, 0, 0, 0, 1, 81],
-        &[81, 81, 0, 0, 81, 0],
-    ] {
-        for position in (0..datagram.len() + 4).chain([usize::MAX]) {
-            let expected = match step(datagram, position) {
-                Ok(Step::Message { start, length }) => {
-                    done(format!("{start} {length}\n"), "count=1".to_string())
-                }
-                Ok(Step::Finished) => done("", format!("count=0 finished={position}")),
-                Err(number) => step_refused(number, datagram, position),
-            };
-            let command = format!("step {position}");
-            runs(given, test, &command, datagram, expected);
         }
     }
 }

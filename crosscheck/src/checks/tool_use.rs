@@ -104,9 +104,9 @@ fn tool_takes_64_kib(given: &Given, test: &mut Test) {
         "step",
         &vec![74; most],
         refused_at(
-            9,
+            12,
             behind_three,
-            "the message declares 19018 bytes, 8482 are left",
+            "the message declares 19018 bytes, 10536 are missing",
         ),
     );
     for (command, refusal, got) in [

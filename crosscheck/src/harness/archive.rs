@@ -42,6 +42,7 @@ pub struct Stepped {
     pub status: u32,
     pub start: u64,
     pub length: u64,
+    pub missing: u64,
 }
 
 extern "C" {

@@ -16,6 +16,19 @@ use std::ops::Range;
 /// Each slot link with the bytes that it holds and the bits of its burst, as document 01 gives them.
 pub const SLOT_SIZES: [(u32, usize, usize); 3] = [(5, 32, 480), (6, 80, 992), (7, 128, 1504)];
 
+/// Positions far past the end of any datagram; the last three with a place in a datagram in their low
+/// bits.
+pub const FAR: [usize; 8] = [
+    usize::MAX,
+    usize::MAX - 1,
+    usize::MAX - 2,
+    usize::MAX - 7,
+    1 << 63,
+    1 << 32,
+    (1 << 32) + 1,
+    65_536,
+];
+
 /// A datagram of random bytes, of any length that the link holds.
 pub fn random_datagram(link: &Link, random: &mut Random) -> Vec<u8> {
     let length = random.below(link.bytes() + 1);

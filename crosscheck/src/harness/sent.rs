@@ -1,7 +1,8 @@
 //! Datagrams as senders make them: messages with fill before, between and behind them and zeros at
-//! the end, and the same with a lie in it.
+//! the end, and the same with a lie in it or behind its messages.
 
 use crate::harness::random::Random;
+use crate::harness::requests::messages::Numbers;
 
 /// The types of Table 33 but 0, which begins the zero fill, and 81, which is passed over.
 const TYPES: [u8; 11] = [4, 13, 20, 21, 22, 74, 75, 76, 90, 92, 93];
@@ -104,9 +105,14 @@ fn lying(sent: &Sent, random: &mut Random) -> Vec<u8> {
     datagram
 }
 
+/// The length that the message at this place tells.
+fn told_at(datagram: &[u8], start: usize) -> u16 {
+    u16::from_be_bytes([datagram[start + 1], datagram[start + 2]])
+}
+
 /// A length that is too short, or near the true one, or near what is left, or large, or any.
 fn lying_length(datagram: &[u8], start: usize, random: &mut Random) -> u16 {
-    let told = u16::from_be_bytes([datagram[start + 1], datagram[start + 2]]);
+    let told = told_at(datagram, start);
     let left = (datagram.len() - start) as u16;
     let any = random.below(65_536) as u16;
     let lies = [
@@ -127,6 +133,55 @@ fn lying_length(datagram: &[u8], start: usize, random: &mut Random) -> u16 {
         any,
     ];
     lies[random.below(lies.len())]
+}
+
+/// A datagram of whole messages, their starts and lengths, and what a step to the message behind them,
+/// which lies, answers.
+pub struct LieBehind {
+    pub datagram: Vec<u8>,
+    pub whole: Vec<(usize, usize)>,
+    pub lie: Numbers,
+}
+
+pub fn lie_behind(random: &mut Random) -> LieBehind {
+    let Sent {
+        mut datagram,
+        starts,
+        zeros,
+        ..
+    } = sent(random);
+    datagram.truncate(zeros);
+    let lengths = starts.iter().map(|&start| told_at(&datagram, start).into());
+    let whole = starts.iter().copied().zip(lengths).collect();
+    let start = datagram.len();
+    let (number, missing) = lay_lie(&mut datagram, random);
+    LieBehind {
+        datagram,
+        whole,
+        lie: [number, start, 0, missing],
+    }
+}
+
+/// One or two bytes of a message, or one with a length below 7, or one with a length past the end:
+/// answers the number of the refusal and the missing bytes.
+fn lay_lie(datagram: &mut Vec<u8>, random: &mut Random) -> (usize, usize) {
+    let kind = TYPES[random.below(TYPES.len())];
+    let (number, told, left) = match random.below(3) {
+        0 => (11, random.below(65_536), 1 + random.below(2)),
+        1 => (9, random.below(7), 3 + random.below(20)),
+        _ => {
+            let lengths = [10, 300, 65_529][random.below(3)];
+            let told = 7 + random.below(lengths);
+            (12, told, 3 + random.below(told.min(300) - 3))
+        }
+    };
+    let [high, low] = (told as u16).to_be_bytes();
+    let message = [vec![kind, high, low], random.bytes(left)].concat();
+    datagram.extend(&message[..left]);
+    match number {
+        12 => (12, told - left),
+        _ => (number, 0),
+    }
 }
 
 /// 81s and then zeros, with up to two other bytes somewhere.

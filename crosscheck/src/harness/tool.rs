@@ -6,9 +6,9 @@ use crate::harness::report::{Given, Test};
 use crate::second::words::Refusal;
 use std::fmt::Display;
 
-/// Document 01, "Numbers a caller gets back": the words of the refusals 1 to 10, the last as document
-/// 02's K1 has it.
-const WORDS: [&str; 10] = [
+/// Document 01, "Numbers a caller gets back": the words of the refusals 1 to 12, from 9 on as document
+/// 02's K1 and K3 have them.
+const WORDS: [&str; 12] = [
     "link not offered; number above 63 for a link word; slot burst not of link 5, 6, 7",
     "datagram longer than the link holds; link word, block or slot burst of the wrong length",
     "output buffer too short",
@@ -17,8 +17,10 @@ const WORDS: [&str; 10] = [
     "no code word within seven",
     "no valid block's image within one",
     "position past the end",
-    "fewer than 3 bytes left, length below 7, or message past the end",
+    "length below 7",
     "a byte other than 0 after a 0",
+    "fewer than 3 bytes left",
+    "message past the end",
 ];
 
 /// A run that ends well, with these bytes and this line of counts.

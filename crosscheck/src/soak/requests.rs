@@ -203,8 +203,8 @@ fn lying_count(random: &mut Random) -> u32 {
 }
 
 /// Messages with fill before, between and behind them, some of which lie about their length, then
-/// zeros, with now and then another byte anywhere; stepped into where a message or the fill before it
-/// begins, or anywhere, or past the end.
+/// zeros, now and then cut off near where a message begins or ends, or with another byte anywhere;
+/// stepped into where a message or the fill before it begins, or anywhere, or past the end.
 fn step_once(second: &Second, random: &mut Random, caller: &mut Caller) {
     let (mut datagram, mut starts) = (Vec::new(), vec![0]);
     for _ in 0..random.below(5) {
@@ -222,6 +222,10 @@ fn step_once(second: &Second, random: &mut Random, caller: &mut Caller) {
     }
     lay_fill(&mut datagram, random);
     datagram.extend(vec![0; random.below(20)]);
+    if once_in(4, random) {
+        let near = starts[random.below(starts.len())] + random.below(5);
+        datagram.truncate(near.saturating_sub(2));
+    }
     let datagram = lie(datagram, random);
     let position = match random.below(8) {
         0 => random.below(datagram.len() + 3),
