@@ -27,7 +27,7 @@ static const sizes links[] = {DECKLEWREN_LINKS(SIZES)};
 static const sizes slot_links[] = {DECKLEWREN_SLOT_LINKS(BURST)};
 enum { LINKS = sizeof links / sizeof *links, SLOT_LINKS = sizeof slot_links / sizeof *slot_links };
 
-/* A step is as long as the archive writes it, and its fields stand there and are as wide. Held while compiling: behind a shorter
+/* Where each field of a step stands and how wide it is; check_steps holds the archive to it. Held while compiling: behind a shorter
    struct the archive would write over what is not its own. */
 #define FIELD(name, place, size) \
     static_assert(offsetof(decklewren_step, name) == place && sizeof(((decklewren_step *)0)->name) == size, #name);

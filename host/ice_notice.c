@@ -39,7 +39,7 @@ static void show_end(decklewren_step last, size_t position) {
     unsigned place = (unsigned)(last.start > position ? last.start : position);
     const char *words = last.status == DECKLEWREN_DONE ? "finished" : decklewren_status_text(last.status);
     printf("  at %u: %s, status %u", place, words, (unsigned)last.status);
-    if (last.status == DECKLEWREN_OVERRUN) printf(", %u bytes missing", (unsigned)last.missing);
+    if (last.missing > 0) printf(", missing %u", (unsigned)last.missing);
     printf("\n");
 }
 

@@ -23,10 +23,8 @@ static void show_end(decklewren_step last) {
         break;
     case DECKLEWREN_FEW_LEFT:
     case DECKLEWREN_SMALL_LENGTH:
-        printf("refusal %u at %u: %s\n", (unsigned)last.status, (unsigned)last.start, words);
-        break;
     case DECKLEWREN_OVERRUN:
-        printf("refusal 12 at %u: %s, %u bytes missing\n", (unsigned)last.start, words, (unsigned)last.missing);
+        printf("refusal %u at %u: %s, missing %u\n", (unsigned)last.status, (unsigned)last.start, words, (unsigned)last.missing);
         break;
     default:
         printf("refusal %u: %s\n", (unsigned)last.status, words);

@@ -326,10 +326,10 @@ static inline decklewren_slot decklewren_parts_read(decklewren_parts *parts, uin
              below 7, 12 message past the end, or of the zero fill 10 a byte other than 0 after a 0
    Proved:   start + length is at most datagram_len, whatever the bytes say; a message is answered exactly where, behind bytes 81
              alone, one begins that is as long as it declares, at least 7, and ends inside. Each of 11, 9 and 12 is answered exactly
-             where one begins there that it is true of, and none before it in that order, with the true start, which is below
-             datagram_len, and number of missing bytes; missing is 0 in every other answer. The walk ends; between its messages lie
-             only bytes 81, and where it is finished, behind the last one lie bytes 81 and then zeros. Where it comes to a message
-             that 11, 9 or 12 is true of, and only there, it ends with that answer */
+             where, behind bytes 81 alone, a message begins of which it is true, and none before it in that order; start is that
+             message's, below datagram_len, and missing is its true number, 0 with all but 12. The walk ends; between its messages
+             lie only bytes 81, and where it is finished, behind the last one lie bytes 81 and then zeros. Where it comes to a
+             message of which 11, 9 or 12 is true, and only there, it ends with that answer */
 decklewren_step decklewren_step_message(const uint8_t *datagram, size_t datagram_len, size_t position);
 
 #ifdef __cplusplus

@@ -1,4 +1,4 @@
--- The numbers a caller gets back (document 01, the table of that name).
+-- The numbers a caller gets back (document 01, the table of that name, as document 02 amends it).
 use Prim.Native.Nat.{ℕ}
 
 abbrev pub done : ℕ
@@ -36,7 +36,7 @@ noBlock = 7
 abbrev pub pastEnd : ℕ
 pastEnd = 8
 
--- a message: length below 7
+-- a message: length below 7 (document 02, K3)
 abbrev pub smallLength : ℕ
 smallLength = 9
 

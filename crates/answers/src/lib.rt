@@ -1,4 +1,4 @@
-// What a call answers: document 01, "Numbers a caller gets back". The status stands first, and a refusal answers 0 for all else.
+// What a writing call answers: document 01, "Numbers a caller gets back". The status stands first, and a refusal answers 0 for all else.
 ghost use mathlib.Core.Path.{_≡_};
 ghost use Rattle.answers.specs.Written.{refused, wrote};
 

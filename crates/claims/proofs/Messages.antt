@@ -1,8 +1,8 @@
 -- What is shown of the steps through a datagram, from the laws of the crate `messages`.
 -- Assumes nothing.
 use mathlib.Core.Path.{_≡_, refl, sym, ap, _∙_}
-use mathlib.Core.Logic.{_↔_}
-use mathlib.Core.Bool.{true, false, true≢false}
+use mathlib.Core.Logic.{_↔_, ⊎-elim}
+use mathlib.Core.Bool.{true, false}
 use mathlib.Core.List.{List, _++_}
 use Prim.Native.Nat.{ℕ, _+_, _-_, _*_, _≤_}
 use native.Mathlib.Omega.{arith}
@@ -17,7 +17,8 @@ use Rattle.messages.specs.working.Stepping.{Stepping, past, ends, spoils, lies,
 use Rattle.messages.specs.Tiling.{Tiles, Leads, bytesOf}
 use Rattle.messages.specs.Walk.{Walks}
 use Rattle.messages.proofs.Stepping.{step-goes, tells-lie, lie-exact, none-missing}
-use Rattle.messages.proofs.Ways.{same-status, same-start, same-length}
+use Rattle.messages.proofs.Ways.{same-status, same-start, same-length, lie-apart}
+use Rattle.messages.proofs.Walk.{One, none-or-one}
 use Rattle.messages.proofs.Tiling.{walks-tile, walks-lie, tiles-walk, tiles-count, tiles-bytes}
 use Rattle.claims.specs.Calls.{Stepped}
 
@@ -32,22 +33,21 @@ lie-refused datagram size position start passed begins lie =
 
 pub refused : (datagram : List ℕ) (position : ℕ) (answer : Step) → Stepped datagram position answer → (answer .status ≡ done → ⊥)
     → (step.isLie (answer .status) ≡ false → answer .start ≡ 0) × (answer .length ≡ 0) × ((answer .status ≡ overrun → ⊥) → answer .missing ≡ 0)
-refused datagram position answer e z =
-    (λ clear. starts (step-goes datagram position) clear, lengths (step-goes datagram position), λ other. rw e (none-missing datagram position (rw e at other)))
+refused datagram position answer e z = (
+  λ clear. starts (step-goes datagram position) clear,
+  ⊎-elim (λ l. same-length e ∙ l) found-none (none-or-one datagram position),
+  λ other. rw e (none-missing datagram position (rw e at other)),
+)
   where
     starts : Stepping datagram position → step.isLie (answer .status) ≡ false → answer .start ≡ 0
     starts (past h f) clear = same-start (e ∙ f)
     starts (ends h f) clear = same-start (e ∙ f)
     starts (spoils h f) clear = same-start (e ∙ f)
-    starts (lies start number missing p l f) clear = absurd (true≢false (sym (tells-lie datagram (l .1)) ∙ ap step.isLie (sym (same-status (e ∙ f))) ∙ clear))
+    starts (lies start number missing p l f) clear = lie-apart (sym (e ∙ f)) (tells-lie datagram (l .1)) clear
     starts (finds start total p w f) clear = absurd (z (same-status (e ∙ f)))
 
-    lengths : Stepping datagram position → answer .length ≡ 0
-    lengths (past h f) = same-length (e ∙ f)
-    lengths (ends h f) = same-length (e ∙ f)
-    lengths (spoils h f) = same-length (e ∙ f)
-    lengths (lies start number missing p l f) = same-length (e ∙ f)
-    lengths (finds start total p w f) = absurd (z (same-status (e ∙ f)))
+    found-none : One datagram position → answer .length ≡ 0
+    found-none m = absurd (z (same-status (e ∙ m .answers)))
 
 pub walk-lie : (datagram : List ℕ) (found : List Step) (number start missing : ℕ) → step.isLie number ≡ true
     → Walks datagram 0 found (step.lie number start missing) ↔ (Leads datagram 0 found start × LieAt datagram start number missing)

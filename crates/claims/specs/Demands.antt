@@ -64,7 +64,8 @@ pub record Demand1 : Type 1 where
   -- by parts too: "the state isn't among demand 1's lent bytes"
   pub read-parts-refused : (before after : State) (old new : List ℕ) (answer : Slot) → ReadParts before after old new answer → (answer .status ≡ done → ⊥)
       → (answer .count ≡ 0) × (answer .wrong ≡ 0) × (answer .link ≡ 0) × (answer .«word_wrong» ≡ 0) × (new ≡ old)
-  -- but, by document 02's K3, for the place of a message that lies, and the bytes that are missing where it runs past the end
+  -- 0 for all other numbers, but by document 02's K3 for the place of a message that lies, and the bytes that are missing where it runs past
+  -- the end
   pub step-refused : (datagram : List ℕ) (position : ℕ) (answer : Step) → Stepped datagram position answer → (answer .status ≡ done → ⊥)
       → (isLie (answer .status) ≡ false → answer .start ≡ 0) × (answer .length ≡ 0) × ((answer .status ≡ overrun → ⊥) → answer .missing ≡ 0)
   -- bytes behind those that are answered stay
@@ -168,7 +169,7 @@ pub record Demand2 : Type 0 where
   pub step-spoilt : (datagram : List ℕ) (position : ℕ) (answer : Step) → Stepped datagram position answer
       → (answer ≡ stepRefused brokenFill) ↔ Behind datagram position (Spoilt datagram)
   -- 11, 9 and 12: exactly where, behind 81s alone, a message begins that tells this lie, with the message's place and the bytes that are
-  -- missing. Everything else is answered with none missing, and the place of a lie is inside the datagram
+  -- missing. Every answer but 12 has none missing, and the place of a lie is inside the datagram
   pub step-lie : (datagram : List ℕ) (position : ℕ) (answer : Step) → Stepped datagram position answer → (number start missing : ℕ) → isLie number ≡ true
       → (answer ≡ lie number start missing) ↔ (PassedOver datagram position start × LieAt datagram start number missing)
   pub step-missing : (datagram : List ℕ) (position : ℕ) (answer : Step) → Stepped datagram position answer → (answer .status ≡ overrun → ⊥) → answer .missing ≡ 0

@@ -2,7 +2,7 @@
 -- Assumes nothing.
 use mathlib.Core.Path.{_≡_, refl, sym, ap, _∙_}
 use mathlib.Core.Logic.{_↔_, by-cases}
-use mathlib.Core.Bool.{Bool, true, false, true≢false}
+use mathlib.Core.Bool.{Bool, true, false}
 use mathlib.Core.List.{List}
 use Prim.Native.Nat.{ℕ, zero, suc, _+_, _-_, _<_, _≤_}
 use native.Mathlib.Decide.{ℕ-discrete}
@@ -13,11 +13,11 @@ use borrow.Author.Tests.{ltb-true, ltb-false}
 use Rattle.answers.specs.Numbers.{pastEnd, brokenFill, overrun}
 use Rattle.messages.specs.declared.Step.{Step}
 use Rattle.messages.specs.Fill.{onlyZeros}
-use Rattle.messages.specs.Places.{byteAt, PassedOver, Behind, ZerosFrom, NoneLeft, Spoilt, Begins, totalAt, FewLeft, SmallLength, Overrun, Tells, few-left, small-length, overruns, LieAt, Whole}
+use Rattle.messages.specs.Places.{byteAt, PassedOver, Behind, ZerosFrom, NoneLeft, Spoilt, Begins, totalAt, Tells, few-left, small-length, overruns, LieAt, Whole}
 use Rattle.messages.specs.Step.{refused, finished, message, lie, isLie, messageAt, stepFrom, stepMessage}
 use Rattle.messages.specs.working.Stepping.{Stepping, past, ends, spoils, lies, finds}
 use Rattle.messages.proofs.Places.{passed-ends, left-declares, only-from, from-only, spoilt-at, spoilt-only}
-use Rattle.messages.proofs.Ways.{same-status, same-start, same-length, same-missing, zeros-only, zeros-broken, message-few, message-small, message-long, message-whole, step-end, step-passes, step-zeros, step-begins, step-past, step-within}
+use Rattle.messages.proofs.Ways.{same-status, same-start, same-length, same-missing, lie-apart, zeros-only, zeros-broken, message-few, message-small, message-long, message-whole, step-end, step-passes, step-zeros, step-begins, step-past, step-within}
 
 not-below : (a b : ℕ) → ltb a b ≡ false → a < b → ⊥
 not-below a b e h = omega (arith, ltb-false a b e)
@@ -146,19 +146,9 @@ module _ (datagram : List ℕ) (position : ℕ) where
   no-length p q differ = absurd (differ (same-length (sym p ∙ q)))
 
   no-lie : {a b : Step} {A : Type 0} → stepMessage datagram position ≡ a → isLie (a .status) ≡ false → stepMessage datagram position ≡ b → isLie (b .status) ≡ true → A
-  no-lie p none q one = absurd (true≢false (sym one ∙ ap isLie (same-status (sym q ∙ p)) ∙ none))
+  no-lie p none q one = lie-apart (sym q ∙ p) one none
 
   -- ---- each answer exactly then
-  pub past-exact : (stepMessage datagram position ≡ refused pastEnd) ↔ (length datagram < position)
-  past-exact = (λ e. goes step-goes e, step-past datagram position)
-    where
-      goes : Stepping datagram position → stepMessage datagram position ≡ refused pastEnd → length datagram < position
-      goes (past h q) e = h
-      goes (ends h q) e = no-status e q (omega arith)
-      goes (spoils h q) e = no-status e q (omega arith)
-      goes (lies start number missing p l q) e = no-lie e refl q (tells-lie datagram (l .1))
-      goes (finds start total p w q) e = no-status e q (omega arith)
-
   pub lie-exact : (number start missing : ℕ) → isLie number ≡ true
       → (stepMessage datagram position ≡ lie number start missing) ↔ (PassedOver datagram position start × LieAt datagram start number missing)
   lie-exact number start missing one = (λ e. goes step-goes e, λ h. lies-answers start number missing (h .0) (h .1))

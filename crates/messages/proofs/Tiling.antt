@@ -2,7 +2,7 @@
 -- Assumes nothing.
 use mathlib.Core.Path.{_≡_, refl, sym, ap, _∙_}
 use mathlib.Core.Logic.{⊎-elim}
-use mathlib.Core.Bool.{true, false, true≢false}
+use mathlib.Core.Bool.{true}
 use mathlib.Core.List.{List, _∷_, _++_, append-nil, append-assoc}
 use Prim.Native.Nat.{ℕ, _+_, _-_, _*_, _<_, _≤_}
 use native.Mathlib.Omega.{arith}
@@ -18,7 +18,7 @@ use Rattle.messages.specs.working.Stepping.{Stepping, past, ends, spoils
 use Rattle.messages.specs.Tiling.{Tiles, none, next, Leads, Stops, at-end, at-spoilt, at-lie, Tiled, bytesOf}
 use Rattle.messages.specs.Walk.{Walks, stops, goes}
 use Rattle.messages.proofs.Stepping.{step-goes, tells-lie, found-exact, answer-inside}
-use Rattle.messages.proofs.Ways.{same-status, same-start, same-length, same-missing}
+use Rattle.messages.proofs.Ways.{same-status, same-start, same-length, same-missing, lie-apart}
 use Rattle.messages.proofs.Walk.{One, none-or-one}
 
 module _ (datagram : List ℕ) where
@@ -58,20 +58,17 @@ module _ (datagram : List ℕ) where
       go : (t : Tiled datagram position found finished) → Stops datagram (t .end) finished → (end : ℕ) × Tiles datagram position found end × NoneLeft datagram end
       go t (at-end f q) = (t .end, t .tiles, f)
       go t (at-spoilt s q) = absurd (omega (arith, same-status q))
-      go t (at-lie start number missing p l q) = absurd (true≢false (sym (tells-lie datagram (l .1)) ∙ ap isLie (sym (same-status q))))
+      go t (at-lie start number missing p l q) = lie-apart (sym q) (tells-lie datagram (l .1)) refl
 
   -- ---- where it ends in a lie, the messages lead to the message that tells it, and where they do, it ends so
   pub walks-lie : {position number start missing : ℕ} {found : List Step} → isLie number ≡ true → position ≤ length datagram
       → Walks datagram position found (lie number start missing) → Leads datagram position found start × LieAt datagram start number missing
   walks-lie {position} {number} {start} {missing} {found} one h w = let t = walks-tile h w in go t (t .rest)
     where
-      other : {a : Step} {A : Type 0} → lie number start missing ≡ a → isLie (a .status) ≡ false → A
-      other q clear = absurd (true≢false (sym one ∙ ap isLie (same-status q) ∙ clear))
-
       go : (t : Tiled datagram position found (lie number start missing)) → Stops datagram (t .end) (lie number start missing)
           → Leads datagram position found start × LieAt datagram start number missing
-      go t (at-end f q) = other q refl
-      go t (at-spoilt s q) = other q refl
+      go t (at-end f q) = lie-apart q one refl
+      go t (at-spoilt s q) = lie-apart q one refl
       go t (at-lie place n m p l q) = ((t .end, t .tiles, rw (same-start q) p), rw (same-status q, same-start q, same-missing q) l)
 
   pub tiles-walk : {from to : ℕ} {found : List Step} {last : Step} → Tiles datagram from found to → stepMessage datagram to ≡ last → last .length ≡ 0 → Walks datagram from found last

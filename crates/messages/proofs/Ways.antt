@@ -1,7 +1,7 @@
 -- One law for each way a step goes.
 -- Assumes nothing.
-use mathlib.Core.Path.{_≡_, ap}
-use mathlib.Core.Bool.{true, false}
+use mathlib.Core.Path.{_≡_, sym, ap, _∙_}
+use mathlib.Core.Bool.{true, false, true≢false}
 use mathlib.Core.List.{List}
 use Prim.Native.Nat.{ℕ, _+_, _-_, _<_, _≤_}
 use native.Mathlib.Omega.{arith}
@@ -12,7 +12,7 @@ use borrow.Author.Tests.{lt-ltb, le-ltb, ne-eqb}
 use Rattle.answers.specs.Numbers.{pastEnd, smallLength, brokenFill, fewLeft, overrun}
 use Rattle.messages.specs.declared.Step.{Step}
 use Rattle.messages.specs.Fill.{onlyZeros}
-use Rattle.messages.specs.Step.{refused, finished, message, lie, declaredLength, zerosAt, messageAt, stepAt, stepFrom, stepMessage}
+use Rattle.messages.specs.Step.{refused, finished, message, lie, isLie, declaredLength, zerosAt, messageAt, stepAt, stepFrom, stepMessage}
 
 -- ---- equal answers are equal in each number
 module _ {a b : Step} (e : a ≡ b) where
@@ -27,6 +27,10 @@ module _ {a b : Step} (e : a ≡ b) where
 
   pub same-missing : a .missing ≡ b .missing
   same-missing = ap (λ (s : Step). s .missing) e
+
+  -- a lie and another answer are not equal
+  pub lie-apart : {A : Type 0} → isLie (a .status) ≡ true → isLie (b .status) ≡ false → A
+  lie-apart one none = absurd (true≢false (sym one ∙ ap isLie same-status ∙ none))
 
 -- ---- where the zero fill begins
 pub zeros-only : (left : List ℕ) → onlyZeros left ≡ true → zerosAt left ≡ finished

@@ -55,7 +55,7 @@ SmallLength datagram place = totalAt datagram place < 7
 abbrev pub Overrun : List ℕ → ℕ → Type 0
 Overrun datagram place = length datagram < place + totalAt datagram place
 
--- they are tested in this order, so each is told where none before it is: its number, and how many bytes are missing
+-- they are tested in this order, so each is told where none before it holds: its number, and how many bytes are missing
 pub data Tells (datagram : List ℕ) (place : ℕ) : ℕ → ℕ → Type 0 where
   few-left : FewLeft datagram place → Tells datagram place fewLeft 0
   small-length : (FewLeft datagram place → ⊥) → SmallLength datagram place → Tells datagram place smallLength 0

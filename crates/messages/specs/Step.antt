@@ -9,7 +9,7 @@ use Rattle.answers.specs.Numbers.{done, pastEnd, smallLength, brokenFill, fewLe
 use Rattle.messages.specs.declared.Step.{Step}
 use Rattle.messages.specs.Fill.{isFill, isZero, onlyZeros}
 
--- a refusal: the number, and 0 for all else
+-- a refusal that is no lie of a message: the number, and 0 for all else
 abbrev pub refused : ℕ → Step
 refused n = record { status = n; start = 0; length = 0; missing = 0 }
 

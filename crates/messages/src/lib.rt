@@ -95,7 +95,8 @@ fn declared_length(left: &[u8]) -> usize
     high * 256 + low
 }
 
-// How many bytes of a message of this total length lie past the end. It is compared with what is left: added to a position it could wrap.
+// How many bytes of a message of this total length lie past the end. The length is compared with what is left: added to a position it
+// could wrap.
 fn missing(total: usize, left: &[u8]) -> usize
     ensures { λ r. ⌜ r ≡ total - length (now (left .entry)) ⌝ }
 {
