@@ -75,8 +75,8 @@ static void check_steps(void) {
         {DECKLEWREN_SMALL_LENGTH, 1, 2, 0, 0, 5, {74, 81, 1, 0, 6}},
         {DECKLEWREN_BROKEN_FILL, 1, 0, 0, 0, 4, {74, 81, 0, 1}},
         {DECKLEWREN_FEW_LEFT, 0, 1, 0, 0, 3, {81, 1, 0}},
-        {DECKLEWREN_OVERRUN, 0, 0, 0, 1, 8, {74, 0, 9, 0, 0, 0, 1, 81}},
-        {DECKLEWREN_OVERRUN, 0, 2, 0, 65532, 5, {81, 81, 1, 255, 255}},
+        {DECKLEWREN_MESSAGE_PAST_END, 0, 0, 0, 1, 8, {74, 0, 9, 0, 0, 0, 1, 81}},
+        {DECKLEWREN_MESSAGE_PAST_END, 0, 2, 0, 65532, 5, {81, 81, 1, 255, 255}},
     };
     for (unsigned n = 0; n < sizeof steps / sizeof *steps; n++) {
         decklewren_step step = decklewren_step_message(steps[n].bytes, steps[n].count, steps[n].position);

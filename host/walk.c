@@ -23,7 +23,7 @@ static void show_end(decklewren_step last) {
         break;
     case DECKLEWREN_FEW_LEFT:
     case DECKLEWREN_SMALL_LENGTH:
-    case DECKLEWREN_OVERRUN:
+    case DECKLEWREN_MESSAGE_PAST_END:
         printf("refusal %u at %u: %s, missing %u\n", (unsigned)last.status, (unsigned)last.start, words, (unsigned)last.missing);
         break;
     default:

@@ -68,7 +68,7 @@ extern "C" {
     X(DECKLEWREN_SMALL_LENGTH, 9, "length below 7")                                                                                  \
     X(DECKLEWREN_BROKEN_FILL, 10, "a byte other than 0 after a 0")                                                                   \
     X(DECKLEWREN_FEW_LEFT, 11, "fewer than 3 bytes left")                                                                            \
-    X(DECKLEWREN_OVERRUN, 12, "message past the end")
+    X(DECKLEWREN_MESSAGE_PAST_END, 12, "message past the end")
 
 /* The links that are offered (document 01, "The links"): X(link, bytes of a datagram that it holds, N bits of its image). Images
    differ in two things from M.2092-1, because document 01 says so and outranks it: link 20 has 32 check bits in the place of 16, and

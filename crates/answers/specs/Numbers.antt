@@ -49,5 +49,5 @@ abbrev pub fewLeft : ℕ
 fewLeft = 11
 
 -- a message: past the end (document 02, K3)
-abbrev pub overrun : ℕ
-overrun = 12
+abbrev pub messagePastEnd : ℕ
+messagePastEnd = 12

@@ -7,11 +7,11 @@ use mathlib.Core.List.{List, _++_}
 use Prim.Native.Nat.{ℕ, _+_, _-_, _*_, _≤_}
 use native.Mathlib.Omega.{arith}
 use lib.ListN.{length, drop, take-append-drop, List·getD-eq-default}
-use Rattle.answers.specs.Numbers.{done, overrun}
+use Rattle.answers.specs.Numbers.{done, messagePastEnd}
 use Rattle.links.specs.Rows.{rows, placeIn, rowOf}
 use Rattle.links.specs.Sizes.{bytesHeld}
 use Rattle.messages.specs.declared.Step.{Step}
-use Rattle.messages.specs.Places.{byteAt, PassedOver, Begins, totalAt, FewLeft, Tells, overruns, LieAt}
+use Rattle.messages.specs.Places.{byteAt, PassedOver, Begins, totalAt, FewLeft, Tells, past-the-end, LieAt}
 use Rattle.messages.specs.Step as step
 use Rattle.messages.specs.working.Stepping.{Stepping, past, ends, spoils, lies, finds}
 use Rattle.messages.specs.Tiling.{Tiles, Leads, bytesOf}
@@ -23,16 +23,16 @@ use Rattle.messages.proofs.Tiling.{walks-tile, walks-lie, tiles-walk, tiles-cou
 use Rattle.claims.specs.Calls.{Stepped}
 
 pub lie-refused : (datagram : List ℕ) → length datagram ≡ bytesHeld (rowOf 5) → (position start : ℕ) → PassedOver datagram position start → Begins datagram start
-    → byteAt datagram (start + 1) * 256 + byteAt datagram (start + 2) ≡ 900 → step.stepMessage datagram position ≡ step.lie overrun start (start + 868)
+    → byteAt datagram (start + 1) * 256 + byteAt datagram (start + 2) ≡ 900 → step.stepMessage datagram position ≡ step.lie messagePastEnd start (start + 868)
 unfolding rows placeIn rowOf
 lie-refused datagram size position start passed begins lie =
     let here : FewLeft datagram start → ⊥ = λ few. omega (arith, lie, List·getD-eq-default datagram 0 {n = start + 2} (omega (arith, few))) in
     let missing = start + totalAt datagram start - length datagram in
-    let told : Tells datagram start overrun missing = overruns here (λ small. omega (arith, lie, small)) (omega (arith, size, lie)) in
-    lie-exact datagram position overrun start missing refl .1 (passed, (begins, told)) ∙ ap (step.lie overrun start) (omega (arith, size, lie))
+    let told : Tells datagram start messagePastEnd missing = past-the-end here (λ small. omega (arith, lie, small)) (omega (arith, size, lie)) in
+    lie-exact datagram position messagePastEnd start missing refl .1 (passed, (begins, told)) ∙ ap (step.lie messagePastEnd start) (omega (arith, size, lie))
 
 pub refused : (datagram : List ℕ) (position : ℕ) (answer : Step) → Stepped datagram position answer → (answer .status ≡ done → ⊥)
-    → (step.isLie (answer .status) ≡ false → answer .start ≡ 0) × (answer .length ≡ 0) × ((answer .status ≡ overrun → ⊥) → answer .missing ≡ 0)
+    → (step.isLie (answer .status) ≡ false → answer .start ≡ 0) × (answer .length ≡ 0) × ((answer .status ≡ messagePastEnd → ⊥) → answer .missing ≡ 0)
 refused datagram position answer e z = (
   λ clear. starts (step-goes datagram position) clear,
   ⊎-elim (λ l. same-length e ∙ l) found-none (none-or-one datagram position),

@@ -22,11 +22,12 @@ use Rattle.slots.specs.declared.Slot.{Slot}
 use Rattle.slots.specs.Burst.{blockPart, isSlotLink}
 use Rattle.slots.proofs.WaysOfReading as rs
 use Rattle.messages.specs.declared.Step.{Step}
-use Rattle.messages.specs.Places.{byteAt, PassedOver, Behind, Spoilt, Begins, FewLeft, SmallLength, Overrun, Tells, few-left, small-length, overruns}
+use Rattle.messages.specs.Places.{byteAt, PassedOver, Behind, Spoilt, Begins, FewLeft, SmallLength, MessagePastEnd, Tells, few-left, small-length, past-the-end}
 use Rattle.messages.specs.Step.{refused, lie, stepMessage}
 use Rattle.messages.specs.working.Stepping.{Stepping, past, ends, spoils, lies, finds}
 use Rattle.messages.proofs.Places.{same-place}
 use Rattle.messages.proofs.Stepping.{spoilt-exact}
+use Rattle.messages.proofs.Ways.{same-status}
 use Rattle.claims.specs.Lines.{Lines, none as no-more, line, Given}
 use Rattle.claims.specs.Calls as calls
 use Rattle.claims.proofs.Endings.{writers}
@@ -118,11 +119,11 @@ module _ (burst old new : List ℕ) (answer : Slot) (wr : calls.ReadSlot burst o
 -- ---- steps
 module _ (datagram : List ℕ) (position : ℕ) (answer : Step) (e : calls.Stepped datagram position answer) where
   status-step : {step : Step} → stepMessage datagram position ≡ step → answer .status ≡ step .status
-  status-step f = ap (λ (a : Step). a .status) (e ∙ f)
+  status-step f = same-status (e ∙ f)
 
   -- a line that would give another answer does not apply
   other : {A : Type 0} {step : Step} {number : ℕ} → stepMessage datagram position ≡ step → (A → stepMessage datagram position ≡ refused number) → (step .status ≡ number → ⊥) → A → ⊥
-  other f line-says differs applies = differs (ap (λ (a : Step). a .status) (sym f ∙ line-says applies))
+  other f line-says differs applies = differs (same-status (sym f ∙ line-says applies))
 
   inside : {place : ℕ} → PassedOver datagram position place → length datagram < position → ⊥
   inside p h = omega (arith, p .onward, p .inside)
@@ -135,18 +136,18 @@ module _ (datagram : List ℕ) (position : ℕ) (answer : Step) (e : calls.Stepp
         differs (rw same at b) (rw same at is)
 
     -- where no message lies, and where none begins
-    no-lies : (number : ℕ) → (Begins datagram place → (FewLeft datagram place → ⊥) × (SmallLength datagram place → ⊥) × (Overrun datagram place → ⊥))
+    no-lies : (number : ℕ) → (Begins datagram place → (FewLeft datagram place → ⊥) × (SmallLength datagram place → ⊥) × (MessagePastEnd datagram place → ⊥))
         → Given (line brokenFill (Behind datagram position (Spoilt datagram)) no-more) number → Given (calls.stepLines datagram position) number
     unfolding Given
     no-lies number honest rest =
-        inr (inside p, inr (not-so FewLeft (λ b. honest b .0), inr (not-so SmallLength (λ b. honest b .1), inr (not-so Overrun (λ b. honest b .2), rest))))
+        inr (inside p, inr (not-so FewLeft (λ b. honest b .0), inr (not-so SmallLength (λ b. honest b .1), inr (not-so MessagePastEnd (λ b. honest b .2), rest))))
 
   lied : {start number missing : ℕ} → PassedOver datagram position start → Begins datagram start → Tells datagram start number missing → stepMessage datagram position ≡ lie number start missing
       → Given (calls.stepLines datagram position) (answer .status)
   unfolding Given
   lied {start} p b (few-left h) f = inr (inside p, inl ((start, p, (b, h)), status-step f))
   lied {start} p b (small-length k h) f = inr (inside p, inr (not-so p (λ l. b .no-fill) FewLeft (λ c. k), inl ((start, p, (b, h)), status-step f)))
-  lied {start} p b (overruns k s h) f =
+  lied {start} p b (past-the-end k s h) f =
       inr (inside p, inr (not-so p (λ l. b .no-fill) FewLeft (λ c. k), inr (not-so p (λ l. b .no-fill) SmallLength (λ c. s), inl ((start, p, (b, h)), status-step f))))
 
   pub steps : Stepping datagram position → Given (calls.stepLines datagram position) (answer .status)

@@ -6,7 +6,7 @@ use mathlib.Core.List.{List, map}
 use Prim.Native.Nat.{ℕ, _<_}
 use lib.ListN.{length, take, drop}
 use Rattle.answers.specs.declared.Written.{Written}
-use Rattle.answers.specs.Numbers.{done, notOffered, wrongLength, noRoom, noBit, noTraining, noWord, noBlock, pastEnd, smallLength, brokenFill, fewLeft, overrun}
+use Rattle.answers.specs.Numbers.{done, notOffered, wrongLength, noRoom, noBit, noTraining, noWord, noBlock, pastEnd, smallLength, brokenFill, fewLeft, messagePastEnd}
 use Rattle.answers.specs.Outcome.{Wrote}
 use Rattle.answers.specs.Task.{Task}
 use Rattle.bits.specs.Bits.{isOne, allBits}
@@ -26,7 +26,7 @@ use Rattle.parts.specs.State.{State, fresh, heard}
 use Rattle.parts.specs.Taking.{joined, TookAll}
 use Rattle.parts.specs.Asking.{ReadParts}
 use Rattle.messages.specs.declared.Step.{Step}
-use Rattle.messages.specs.Places.{Behind, Spoilt, Begins, FewLeft, SmallLength, Overrun}
+use Rattle.messages.specs.Places.{Behind, Spoilt, Begins, FewLeft, SmallLength, MessagePastEnd}
 use Rattle.messages.specs.Step.{stepMessage}
 use Rattle.printer_text.specs.declared.Text.{Text}
 use Rattle.printer_text.specs.Lines.{textOf}
@@ -151,7 +151,7 @@ stepLines datagram position =
     line pastEnd (length datagram < position)
     (line fewLeft (OfMessage datagram position FewLeft)
     (line smallLength (OfMessage datagram position SmallLength)
-    (line overrun (OfMessage datagram position Overrun)
+    (line messagePastEnd (OfMessage datagram position MessagePastEnd)
     (line brokenFill (Behind datagram position (Spoilt datagram))
     none))))
 

@@ -4,7 +4,7 @@ use mathlib.Core.Bool.{Bool, true, false, not}
 use mathlib.Core.List.{List, [], _∷_, _++_, map}
 use Prim.Native.Nat.{ℕ, zero, suc, _≤_}
 use lib.ListN.{length, take, drop, replicate}
-use Rattle.answers.specs.Numbers.{done, wrongLength, noWord, pastEnd, smallLength, brokenFill, fewLeft, overrun}
+use Rattle.answers.specs.Numbers.{done, wrongLength, noWord, pastEnd, smallLength, brokenFill, fewLeft, messagePastEnd}
 use Rattle.answers.specs.Outcome.{refusal}
 use Rattle.bits.specs.Bits.{byte}
 use Rattle.blocks.specs.Calls.{writeBlock}
@@ -61,7 +61,7 @@ pub record Cases : Type 0 where
   -- a message of 7 and a byte of fill, from 0, from 7 and from 9
   pub P11 : (stepMessage (declaring 7) 0 ≡ message 0 7) × (stepMessage (declaring 7) 7 ≡ finished) × (stepMessage (declaring 7) 9 ≡ step-refused pastEnd)
   -- the same with length 8, and, as document 02's K3 amends it, with 9 or 6
-  pub P12 : (stepMessage (declaring 8) 0 ≡ message 0 8) × (stepMessage (declaring 9) 0 ≡ lie overrun 0 1) × (stepMessage (declaring 6) 0 ≡ lie smallLength 0 0)
+  pub P12 : (stepMessage (declaring 8) 0 ≡ message 0 8) × (stepMessage (declaring 9) 0 ≡ lie messagePastEnd 0 1) × (stepMessage (declaring 6) 0 ≡ lie smallLength 0 0)
   -- document 02, K1: 81 0 81, formerly finished; asked from 2; 0 81
   pub K1-spoilt : (stepMessage (81 ∷ 0 ∷ 81 ∷ []) 0 ≡ step-refused brokenFill) × (stepMessage (81 ∷ 0 ∷ 81 ∷ []) 2 ≡ finished) × (stepMessage (0 ∷ 81 ∷ []) 0 ≡ step-refused brokenFill)
   -- 81, 81 0 and the empty rest are finished, 81 1 is a message with fewer than 3 bytes
@@ -79,9 +79,9 @@ pub record Cases : Type 0 where
       (taken fresh (burst ++ byte-behind ∷ more) ≡ state stop burst) × ((room : ℕ) → readSlot (heard (state stop burst)) room ≡ slot-refused wrongLength)
       × ((room : ℕ) → 128 ≤ room → readSlot (heard (state 1504 burst)) room .answer .status ≡ done)
   -- document 02, K3: 1 0 6 runs past the end too, but 9 comes first; 1 0 7; 1 0
-  pub K3-order : (stepMessage (1 ∷ 0 ∷ 6 ∷ []) 0 ≡ lie smallLength 0 0) × (stepMessage (1 ∷ 0 ∷ 7 ∷ []) 0 ≡ lie overrun 0 4) × (stepMessage (1 ∷ 0 ∷ []) 0 ≡ lie fewLeft 0 0)
+  pub K3-order : (stepMessage (1 ∷ 0 ∷ 6 ∷ []) 0 ≡ lie smallLength 0 0) × (stepMessage (1 ∷ 0 ∷ 7 ∷ []) 0 ≡ lie messagePastEnd 0 4) × (stepMessage (1 ∷ 0 ∷ []) 0 ≡ lie fewLeft 0 0)
   -- 65,535 declared in 3 bytes, behind 81 81; last spring's lie, 900 declared in 32 bytes
-  pub K3-missing : (stepMessage (81 ∷ 81 ∷ 1 ∷ 255 ∷ 255 ∷ []) 0 ≡ lie overrun 2 65532) × (stepMessage (74 ∷ 3 ∷ 132 ∷ replicate 29 0) 0 ≡ lie overrun 0 868)
+  pub K3-missing : (stepMessage (81 ∷ 81 ∷ 1 ∷ 255 ∷ 255 ∷ []) 0 ≡ lie messagePastEnd 2 65532) × (stepMessage (74 ∷ 3 ∷ 132 ∷ replicate 29 0) 0 ≡ lie messagePastEnd 0 868)
   -- a slot burst of 480 bits under link 7's word
   pub short-7 : (rest : List Bool) (room : ℕ) → length rest ≡ 394 → readSlot (map byte (headOf 7 ++ rest)) room ≡ slot-refused wrongLength
   -- the lengths of slot bursts

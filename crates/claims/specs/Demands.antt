@@ -6,7 +6,7 @@ use mathlib.Core.List.{List, [], _∷_, _++_, map}
 use Prim.Native.Nat.{ℕ, _+_, _*_, _<_, _≤_, min}
 use lib.ListN.{length, getD, take, drop}
 use Rattle.answers.specs.declared.Written.{Written}
-use Rattle.answers.specs.Numbers.{done, noWord, noBlock, brokenFill, overrun}
+use Rattle.answers.specs.Numbers.{done, noWord, noBlock, brokenFill, messagePastEnd}
 use Rattle.bits.specs.Bits.{isOne, byte}
 use Rattle.bits.specs.Datagram.{allBytes}
 use Rattle.bits.specs.Row.{differences, flip}
@@ -67,7 +67,7 @@ pub record Demand1 : Type 1 where
   -- 0 for all other numbers, but by document 02's K3 for the place of a message that lies, and the bytes that are missing where it runs past
   -- the end
   pub step-refused : (datagram : List ℕ) (position : ℕ) (answer : Step) → Stepped datagram position answer → (answer .status ≡ done → ⊥)
-      → (isLie (answer .status) ≡ false → answer .start ≡ 0) × (answer .length ≡ 0) × ((answer .status ≡ overrun → ⊥) → answer .missing ≡ 0)
+      → (isLie (answer .status) ≡ false → answer .start ≡ 0) × (answer .length ≡ 0) × ((answer .status ≡ messagePastEnd → ⊥) → answer .missing ≡ 0)
   -- bytes behind those that are answered stay
   pub write-word-behind : (n : ℕ) (old new : List ℕ) (answer : Written) → WroteWord n old new answer → drop (answer .count) new ≡ drop (answer .count) old
   pub write-block-behind : (link : ℕ) (datagram old new : List ℕ) (answer : Written) → WroteBlock link datagram old new answer → drop (answer .count) new ≡ drop (answer .count) old
@@ -172,11 +172,11 @@ pub record Demand2 : Type 0 where
   -- missing. Every answer but 12 has none missing, and the place of a lie is inside the datagram
   pub step-lie : (datagram : List ℕ) (position : ℕ) (answer : Step) → Stepped datagram position answer → (number start missing : ℕ) → isLie number ≡ true
       → (answer ≡ lie number start missing) ↔ (PassedOver datagram position start × LieAt datagram start number missing)
-  pub step-missing : (datagram : List ℕ) (position : ℕ) (answer : Step) → Stepped datagram position answer → (answer .status ≡ overrun → ⊥) → answer .missing ≡ 0
+  pub step-missing : (datagram : List ℕ) (position : ℕ) (answer : Step) → Stepped datagram position answer → (answer .status ≡ messagePastEnd → ⊥) → answer .missing ≡ 0
   pub lie-inside : (datagram : List ℕ) (position : ℕ) (answer : Step) → Stepped datagram position answer → isLie (answer .status) ≡ true → answer .start < length datagram
   -- the lie of last spring: any burst of one slot whose message, also behind 81s, declares 900 bytes
   pub lie-refused : (datagram : List ℕ) → length datagram ≡ bytesHeld (rowOf 5) → (position start : ℕ) → PassedOver datagram position start → Begins datagram start
-      → byteAt datagram (start + 1) * 256 + byteAt datagram (start + 2) ≡ 900 → (answer : Step) → Stepped datagram position answer → answer ≡ lie overrun start (start + 868)
+      → byteAt datagram (start + 1) * 256 + byteAt datagram (start + 2) ≡ 900 → (answer : Step) → Stepped datagram position answer → answer ≡ lie messagePastEnd start (start + 868)
   -- stepping from 0, each next step at start + length, ends, and with one outcome
   pub walk-ends : (datagram : List ℕ) → Walks datagram 0 (walk datagram .found) (walk datagram .last)
   pub walk-determined : (datagram : List ℕ) (found found' : List Step) (last last' : Step) → Walks datagram 0 found last → Walks datagram 0 found' last'

@@ -10,10 +10,10 @@ use native.Mathlib.Omega.{arith}
 use lib.Dec.{ltb}
 use lib.ListN.{length, drop, length-drop}
 use borrow.Author.Tests.{ltb-true, ltb-false}
-use Rattle.answers.specs.Numbers.{pastEnd, brokenFill, overrun}
+use Rattle.answers.specs.Numbers.{pastEnd, brokenFill, messagePastEnd}
 use Rattle.messages.specs.declared.Step.{Step}
 use Rattle.messages.specs.Fill.{onlyZeros}
-use Rattle.messages.specs.Places.{byteAt, PassedOver, Behind, ZerosFrom, NoneLeft, Spoilt, Begins, totalAt, Tells, few-left, small-length, overruns, LieAt, Whole}
+use Rattle.messages.specs.Places.{byteAt, PassedOver, Behind, ZerosFrom, NoneLeft, Spoilt, Begins, totalAt, Tells, few-left, small-length, past-the-end, LieAt, Whole}
 use Rattle.messages.specs.Step.{refused, finished, message, lie, isLie, messageAt, stepFrom, stepMessage}
 use Rattle.messages.specs.working.Stepping.{Stepping, past, ends, spoils, lies, finds}
 use Rattle.messages.proofs.Places.{passed-ends, left-declares, only-from, from-only, spoilt-at, spoilt-only}
@@ -60,11 +60,11 @@ module _ (datagram : List ℕ) where
       refuses : {n m : ℕ} → Tells datagram place n m → messageAt place left ≡ lie n place m
       refuses (few-left h) = message-few place left (omega (arith, length-drop place datagram))
       refuses (small-length e h) = message-small place left (omega (arith, e, length-drop place datagram)) (rw (left-declares datagram place) h)
-      refuses (overruns e s h) =
+      refuses (past-the-end e s h) =
           let long = length-drop place datagram in
           let same = left-declares datagram place in
           message-long place left (omega (arith, e, long)) (omega (arith, s, same)) (omega (arith, h, b .inside, long, same))
-          ∙ ap (lie overrun place) (omega (arith, h, b .inside, long, same))
+          ∙ ap (lie messagePastEnd place) (omega (arith, h, b .inside, long, same))
 
   whole-answer : (place total : ℕ) → Whole datagram place total → stepFrom datagram place ≡ message place total
   whole-answer place total w =
@@ -77,7 +77,7 @@ module _ (datagram : List ℕ) where
   pub tells-lie : {place number missing : ℕ} → Tells datagram place number missing → isLie number ≡ true
   tells-lie (few-left h) = refl
   tells-lie (small-length e h) = refl
-  tells-lie (overruns e s h) = refl
+  tells-lie (past-the-end e s h) = refl
 
 module _ (datagram : List ℕ) (position : ℕ) where
   -- ---- what each way answers
@@ -106,7 +106,7 @@ module _ (datagram : List ℕ) (position : ℕ) where
       decided : (few small long : Bool) → ltb (length datagram) (place + 3) ≡ few → ltb total 7 ≡ small → ltb (length datagram) (place + total) ≡ long → Stepping datagram position
       decided true small long f s l = told (few-left (ltb-true _ _ f))
       decided false true long f s l = told (small-length (not-below _ _ f) (ltb-true _ _ s))
-      decided false false true f s l = told (overruns (not-below _ _ f) (not-below _ _ s) (ltb-true _ _ l))
+      decided false false true f s l = told (past-the-end (not-below _ _ f) (not-below _ _ s) (ltb-true _ _ l))
       decided false false false f s l =
           let whole : Whole datagram place total = record { begins = b; declares = refl; least = ltb-false _ _ s; ends = ltb-false _ _ l } in
           finds place total p whole (finds-answers place total p whole)
@@ -218,13 +218,13 @@ module _ (datagram : List ℕ) (position : ℕ) where
       goes (finds start total p w q) = no-lie q refl refl one
 
   -- bytes are missing only past the end
-  pub none-missing : (stepMessage datagram position .status ≡ overrun → ⊥) → stepMessage datagram position .missing ≡ 0
+  pub none-missing : (stepMessage datagram position .status ≡ messagePastEnd → ⊥) → stepMessage datagram position .missing ≡ 0
   none-missing other = goes step-goes
     where
       told : {place number missing : ℕ} → Tells datagram place number missing → stepMessage datagram position ≡ lie number place missing → stepMessage datagram position .missing ≡ 0
       told (few-left h) q = same-missing q
       told (small-length e h) q = same-missing q
-      told (overruns e s h) q = absurd (other (same-status q))
+      told (past-the-end e s h) q = absurd (other (same-status q))
 
       goes : Stepping datagram position → stepMessage datagram position .missing ≡ 0
       goes (past h q) = same-missing q

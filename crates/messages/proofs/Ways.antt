@@ -9,7 +9,7 @@ use native.Mathlib.Numerals.{add-one}
 use lib.ListN.{length, getD, drop, drop-of-length-le}
 use lib.Seq.{drop-cons}
 use borrow.Author.Tests.{lt-ltb, le-ltb, ne-eqb}
-use Rattle.answers.specs.Numbers.{pastEnd, smallLength, brokenFill, fewLeft, overrun}
+use Rattle.answers.specs.Numbers.{pastEnd, smallLength, brokenFill, fewLeft, messagePastEnd}
 use Rattle.messages.specs.declared.Step.{Step}
 use Rattle.messages.specs.Fill.{onlyZeros}
 use Rattle.messages.specs.Step.{refused, finished, message, lie, isLie, declaredLength, zerosAt, messageAt, stepAt, stepFrom, stepMessage}
@@ -52,7 +52,7 @@ module _ (position : ℕ) (left : List ℕ) where
   message-small l h = simp (le-ltb (length left) 3 l, lt-ltb (declaredLength left) 7 h)
 
   pub message-long : 3 ≤ length left → 7 ≤ declaredLength left → length left < declaredLength left
-      → messageAt position left ≡ lie overrun position (declaredLength left - length left)
+      → messageAt position left ≡ lie messagePastEnd position (declaredLength left - length left)
   unfolding messageAt
   message-long l s h = simp (le-ltb (length left) 3 l, le-ltb (declaredLength left) 7 s, lt-ltb (length left) (declaredLength left) h)
 

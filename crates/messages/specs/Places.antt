@@ -4,7 +4,7 @@ use mathlib.Core.Path.{_≡_}
 use mathlib.Core.List.{List}
 use Prim.Native.Nat.{ℕ, _+_, _-_, _*_, _<_, _≤_}
 use lib.ListN.{length, getD}
-use Rattle.answers.specs.Numbers.{smallLength, fewLeft, overrun}
+use Rattle.answers.specs.Numbers.{smallLength, fewLeft, messagePastEnd}
 
 abbrev pub byteAt : List ℕ → ℕ → ℕ
 byteAt datagram place = getD datagram place 0
@@ -52,15 +52,15 @@ FewLeft datagram place = length datagram < place + 3
 abbrev pub SmallLength : List ℕ → ℕ → Type 0
 SmallLength datagram place = totalAt datagram place < 7
 
-abbrev pub Overrun : List ℕ → ℕ → Type 0
-Overrun datagram place = length datagram < place + totalAt datagram place
+abbrev pub MessagePastEnd : List ℕ → ℕ → Type 0
+MessagePastEnd datagram place = length datagram < place + totalAt datagram place
 
 -- they are tested in this order, so each is told where none before it holds: its number, and how many bytes are missing
 pub data Tells (datagram : List ℕ) (place : ℕ) : ℕ → ℕ → Type 0 where
   few-left : FewLeft datagram place → Tells datagram place fewLeft 0
   small-length : (FewLeft datagram place → ⊥) → SmallLength datagram place → Tells datagram place smallLength 0
-  overruns : (FewLeft datagram place → ⊥) → (SmallLength datagram place → ⊥) → Overrun datagram place
-      → Tells datagram place overrun (place + totalAt datagram place - length datagram)
+  past-the-end : (FewLeft datagram place → ⊥) → (SmallLength datagram place → ⊥) → MessagePastEnd datagram place
+      → Tells datagram place messagePastEnd (place + totalAt datagram place - length datagram)
 
 -- a message begins that tells a lie
 abbrev pub LieAt : List ℕ → ℕ → ℕ → ℕ → Type 0

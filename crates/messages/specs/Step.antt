@@ -5,7 +5,7 @@ use mathlib.Core.List.{List, [], _∷_}
 use Prim.Native.Nat.{ℕ, _+_, _-_, _*_}
 use lib.Dec.{eqb, ltb}
 use lib.ListN.{length, getD, drop}
-use Rattle.answers.specs.Numbers.{done, pastEnd, smallLength, brokenFill, fewLeft, overrun}
+use Rattle.answers.specs.Numbers.{done, pastEnd, smallLength, brokenFill, fewLeft, messagePastEnd}
 use Rattle.messages.specs.declared.Step.{Step}
 use Rattle.messages.specs.Fill.{isFill, isZero, onlyZeros}
 
@@ -27,7 +27,7 @@ lie n start missing = record { status = n; start = start; length = 0; missing = 
 
 -- the numbers of lies
 abbrev pub isLie : ℕ → Bool
-isLie n = eqb n fewLeft || eqb n smallLength || eqb n overrun
+isLie n = eqb n fewLeft || eqb n smallLength || eqb n messagePastEnd
 
 -- the total length that a message declares: the two bytes after its type, high byte first
 abbrev pub declaredLength : List ℕ → ℕ
@@ -43,7 +43,7 @@ unfoldable pub messageAt : ℕ → List ℕ → Step
 messageAt position left =
     cond (ltb (length left) 3) (lie fewLeft position 0)
     (cond (ltb (declaredLength left) 7) (lie smallLength position 0)
-    (cond (ltb (length left) (declaredLength left)) (lie overrun position (declaredLength left - length left))
+    (cond (ltb (length left) (declaredLength left)) (lie messagePastEnd position (declaredLength left - length left))
     (message position (declaredLength left))))
 
 -- a step on what is left: a byte 81 is passed over alone, a byte 0 begins the zero fill, any other a message
