@@ -61,8 +61,8 @@ static void check_null_parts(uint32_t link, size_t burst) {
 }
 
 static void check_null_elsewhere(void) {
-    expect("write_block, no such link", 4, DECKLEWREN_NOT_OFFERED, decklewren_write_block(4, NULL, 0, NULL, 0).status);
-    expect("read_block, no such link", 4, DECKLEWREN_NOT_OFFERED, decklewren_read_block(4, NULL, 0, NULL, 0).status);
+    expect("write_block, no such link", 63, DECKLEWREN_NOT_OFFERED, decklewren_write_block(63, NULL, 0, NULL, 0).status);
+    expect("read_block, no such link", 63, DECKLEWREN_NOT_OFFERED, decklewren_read_block(63, NULL, 0, NULL, 0).status);
     expect("write_slot, no such link", 8, DECKLEWREN_NOT_OFFERED, decklewren_write_slot(8, NULL, 0, NULL, 0).status);
     decklewren_step step = decklewren_step_message(NULL, 0, 0);
     expect("step_message at 0, finished", 0, DECKLEWREN_DONE, step.status + step.start + step.length + step.missing);

@@ -45,10 +45,10 @@ extern "C" {
 /* The version, here and nowhere else. MAJOR rises where a program must change or be compiled again (a call, a struct or a name that
    was there has changed or is gone), MINOR where something is new or a call answers otherwise, PATCH with every other change. */
 #define DECKLEWREN_VERSION_MAJOR 1
-#define DECKLEWREN_VERSION_MINOR 0
+#define DECKLEWREN_VERSION_MINOR 1
 #define DECKLEWREN_VERSION_PATCH 0
 
-/* The same as text: "1.0.0" is a literal, made of the three numbers. */
+/* The same as text: "1.1.0" is a literal, made of the three numbers. */
 #define DECKLEWREN_TEXT_OF(major, minor, patch) #major "." #minor "." #patch
 #define DECKLEWREN_TEXT(major, minor, patch) DECKLEWREN_TEXT_OF(major, minor, patch)
 #define DECKLEWREN_VERSION DECKLEWREN_TEXT(DECKLEWREN_VERSION_MAJOR, DECKLEWREN_VERSION_MINOR, DECKLEWREN_VERSION_PATCH)
@@ -70,11 +70,14 @@ extern "C" {
     X(DECKLEWREN_FEW_LEFT, 11, "fewer than 3 bytes left")                                                                            \
     X(DECKLEWREN_MESSAGE_PAST_END, 12, "message past the end")
 
-/* The links that are offered (document 01, "The links"): X(link, bytes of a datagram that it holds, N bits of its image). Images
-   differ in two things from M.2092-1, because document 01 says so and outranks it: link 20 has 32 check bits in the place of 16, and
-   none of the Recommendation's fill bits are sent, which makes N smaller on links 12 (by 3), 13 (8), 14 (30), 15 (51), 16 (72),
-   18 (243), 19 (8), 22 (4) and 23 (3). */
+/* The links that are offered (document 01, "The links", and document 02, K4): X(link, bytes of a datagram that it holds, N bits of
+   its image). Images differ in two things from M.2092-1, because document 01 says so and outranks it: link 20 has 32 check bits in
+   the place of 16, and none of the Recommendation's fill bits are sent, which makes N smaller on links 12 (by 3), 13 (8), 14 (30),
+   15 (51), 16 (72), 18 (243), 19 (8), 22 (4) and 23 (3). On link 4, uplink to the satellite, the Recommendation is at odds with
+   itself: its Tables 7 and 23 print 11 tail bits, which would make N 1280, and its Table 6 gives 12, which decides; of the two
+   factors of k = 952 the second is 238, for which its Table 4 prints 240. */
 #define DECKLEWREN_LINKS(X) \
+    X(4, 115, 1281)         \
     X(5, 32, 394)           \
     X(6, 80, 906)           \
     X(7, 128, 1418)         \

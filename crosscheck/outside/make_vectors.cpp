@@ -1,4 +1,4 @@
-// make_vectors TABLES FOLDER: reads Tables 4, 5 and 6 from the first folder and writes the vectors to the second. Where two
+// make_vectors TABLES FOLDER: reads Tables 4, 5, 6 and 23 from the first folder and writes the vectors to the second. Where two
 // libraries can do the same, they must agree, or the program says on what they do not and ends with status 1.
 #include "itpp_coders.h"
 #include "other_coders.h"

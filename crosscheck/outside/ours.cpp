@@ -3,7 +3,8 @@
 #include <sstream>
 #include <stdexcept>
 
-static const int offered[] = {5, 6, 7, 8, 9, 10, 11, 12, 13, 14, 15, 16, 17, 18, 19, 20, 21, 22, 23, 25, 32, 33};
+// In the order in which their vectors are drawn: link 4 joined the others later.
+static const int offered[] = {5, 6, 7, 8, 9, 10, 11, 12, 13, 14, 15, 16, 17, 18, 19, 20, 21, 22, 23, 25, 32, 33, 4};
 
 // The columns of each row of a copied table, without the line number; rows that open with # are remarks.
 static std::vector<std::vector<std::string>> columns_of(const std::string &path) {
@@ -41,6 +42,13 @@ static std::vector<Clock> clocks_of(const std::string &path, const std::string &
     throw std::runtime_error("no flags " + name + " in " + path);
 }
 
+// Link 4's k2, for which Table 4 prints 240: Table 23's payload to the satellite, behind the last stroke, and its check are k.
+static int settled_k2(const std::string &tables, int k1) {
+    auto rows = columns_of(tables + "/table23.txt");
+    const std::string &payloads = rows.at(0).at(1), &check = rows.at(1).at(1);
+    return (std::stoi(payloads.substr(payloads.rfind('/') + 1)) + std::stoi(check)) / k1;
+}
+
 static Link read_link(const std::string &tables, int number) {
     for (const auto &columns : columns_of(tables + "/table4.txt")) {
         if (std::stoi(columns[0]) != number) continue;
@@ -49,6 +57,7 @@ static Link read_link(const std::string &tables, int number) {
         link.k = std::stoi(columns[2]);
         std::istringstream factors(columns[3]), primes(columns[4]);
         factors >> link.k1 >> link.k2;
+        if (number == 4) link.k2 = settled_k2(tables, link.k1);
         for (int &prime : link.primes) primes >> prime;
         link.pattern = clocks_of(tables + "/table5.txt", columns[5]);
         link.tail = clocks_of(tables + "/table6.txt", columns[6]);

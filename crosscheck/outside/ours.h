@@ -28,7 +28,7 @@ struct Rows {
     bool operator==(const Rows &other) const { return x == other.x && y0 == other.y0 && y1 == other.y1; }
 };
 
-// The 22 links of document 01, with the tables as copied from M.2092-1 into this folder.
+// The links of document 01 and then link 4, with the tables as copied from M.2092-1 into this folder.
 std::vector<Link> read_links(const std::string &tables);
 
 // pi(1) to pi(k), from the text of M.2092-1, Annex 2, 1.2.4.3.

@@ -3,14 +3,14 @@
 use mathlib.Core.Path.{_≡_, refl, sym, ap, _∙_}
 use mathlib.Core.Bool.{Bool, true}
 use mathlib.Core.List.{List, [], _∷_, _++_, map, append-nil}
-use Prim.Native.Nat.{ℕ, _<_, _≤_}
+use Prim.Native.Nat.{ℕ, _+_, _*_, _<_, _≤_}
 use native.Mathlib.Omega.{arith}
 use lib.Dec.{ltb, ltb→lt, lit<, lit≤}
-use lib.ListN.{length, getD, replicate, length-map, length-append}
+use lib.ListN.{length, replicate, length-map, length-append}
 use lib.Seq.{take-all, take-at}
-use Rattle.answers.specs.Numbers.{done, wrongLength, noWord}
+use Rattle.answers.specs.Numbers.{done, notOffered, wrongLength, noWord}
 use Rattle.answers.specs.Outcome.{Outcome, refusal}
-use Rattle.answers.proofs.Task.{write-long}
+use Rattle.answers.proofs.Task.{write-unoffered, write-long}
 use Rattle.lists.specs.Every.{every}
 use Rattle.lists.specs.Over.{over}
 use Rattle.lists.proofs.Line.{line}
@@ -23,17 +23,18 @@ use Rattle.blocks.specs.Block.{blockOf, imageOf}
 use Rattle.blocks.specs.Calls.{blockTask, writeBlock}
 use Rattle.blocks.proofs.Blocks.{block-valid}
 use Rattle.blocks.proofs.Calls.{read-length}
+use Rattle.links.specs.Patterns.{patterns, tails, clocksIn, flagsAt, total, patternOf, tailOf}
 use Rattle.links.specs.Rows.{rows, placeIn, offered, rowOf}
-use Rattle.links.specs.Sizes.{bytesHeld, imageLength}
+use Rattle.links.specs.Sizes.{openBits, bytesHeld, passedOn, tailBits, imageLength}
 use Rattle.links.proofs.Good.{good}
-use Rattle.links.proofs.Table.{image-lengths}
 use Rattle.messages.specs.Step.{zerosAt, messageAt, stepAt, stepMessage}
-use Rattle.slots.specs.Burst.{headLength, headPart, blockPart, isSlotLink, headOf, burstOf}
+use Rattle.slots.specs.Burst.{doubled, symbols, training, headLength, headPart, blockPart, isSlotLink, headOf, burstOf}
 use Rattle.slots.specs.declared.Slot.{Slot}
 use Rattle.slots.specs.Near.{Near}
-use Rattle.slots.specs.Head.{readHead}
-use Rattle.slots.specs.Calls.{both, readSlot, refused as slot-refused}
+use Rattle.slots.specs.Head.{refusedHead, trainingWrong, readHead}
+use Rattle.slots.specs.Calls.{slotTask, writeSlot, both, readSlot, refused as slot-refused}
 use Rattle.slots.proofs.Answered.{rest-joined, burst-answered}
+use Rattle.slots.proofs.Calls.{word-no-slot, head-word, read-refused}
 use Rattle.slots.proofs.HeadLaid.{length-head}
 use Rattle.slots.proofs.Links.{slot-offered}
 use Rattle.slots.proofs.Parts.{near-head, block-of}
@@ -77,8 +78,8 @@ too-long datagram room l = write-long (blockTask 12 datagram) room offered-12 (o
 
 -- N of the slot links
 images : (imageLength (rowOf 5) ≡ 394) × (imageLength (rowOf 6) ≡ 906) × (imageLength (rowOf 7) ≡ 1418)
-unfolding rows placeIn rowOf
-images = (ap (λ (l : List ℕ). getD l 0 0) image-lengths, ap (λ (l : List ℕ). getD l 1 0) image-lengths, ap (λ (l : List ℕ). getD l 2 0) image-lengths)
+unfolding rows placeIn rowOf patterns tails clocksIn flagsAt total passedOn tailBits imageLength
+images = (refl, refl, refl)
 
 -- the head of 7 is read, and what stands behind it is not as long as 7's images
 other-7 : (rest : List Bool) (room : ℕ) → (length rest ≡ 1418 → ⊥) → readSlot (map byte (headOf 7 ++ rest)) room ≡ slot-refused wrongLength
@@ -153,6 +154,39 @@ module _ (datagram : List ℕ) (fits : length datagram ≤ 128) where
       ∙ ap (λ (came : List ℕ). readSlot came room) head-7
       ∙ other-7 [] room (λ e. omega (arith, e))
 
+-- ---- K4
+lengths-4 : (rowOf 4 .k ≡ 158 * 6 + 4) × (length (patternOf (rowOf 4 .pattern)) ≡ 6) × (passedOn (patternOf (rowOf 4 .pattern)) 0 (rowOf 4 .k) ≡ 1269)
+    × (tailBits (tailOf (rowOf 4 .tail)) ≡ 12) × (imageLength (rowOf 4) ≡ 1269 + 12)
+unfolding rows placeIn rowOf patterns tails clocksIn flagsAt total passedOn tailBits imageLength
+lengths-4 = (refl, refl, refl, refl, refl)
+
+held-by-4 : (bytesHeld (rowOf 4) ≡ 115) × (openBits (rowOf 4) ≡ 115 * 8)
+unfolding rows placeIn rowOf
+held-by-4 = (refl, refl)
+
+offered-4 : offered 4 ≡ true
+unfolding rows placeIn offered
+offered-4 = refl
+
+no-slot-written : (datagram : List ℕ) (room : ℕ) → writeSlot 4 datagram room ≡ refusal notOffered
+unfolding isSlotLink
+no-slot-written datagram room = write-unoffered (slotTask 4 datagram) room refl
+
+-- the head of 4 is good, but for its link
+module _ (rest : List Bool) where
+  abbrev came-4 : List ℕ
+  came-4 = map byte (headOf 4 ++ rest)
+
+  head-4 : readHead came-4 ≡ refusedHead notOffered
+  unfolding highFirst doubled symbols training generator withRows wordOf headOf every differences trainingWrong isSlotLink
+  head-4 =
+      let long : headLength ≤ length came-4 = omega (arith, length-map (headOf 4 ++ rest) byte, length-append (headOf 4) rest) in
+      let word = near-found (wordBits 4) refl 4 0 (record { known = lit< tt; count = refl; within = lit≤ tt }) in
+      head-word came-4 long refl word refl refl ∙ word-no-slot (found 4 0) 0 refl refl
+
+  no-slot-read : (room : ℕ) → readSlot came-4 room ≡ slot-refused notOffered
+  no-slot-read room = read-refused came-4 room (rw head-4 (λ z. omega (arith, z))) ∙ rw head-4
+
 pub cases : Cases
 unfolding generator withRows wordOf every zerosAt messageAt stepAt stepMessage
-cases = record { P1 = refl; P2 = refl; P3 = refl; P4 = seven-wrong; P5 = eight-wrong; P6 = nine-wrong; P7 = (p7-y0, p7-y1); P8 = p8; P9 = p9; P10 = (held-by-12, too-long); P11 = (refl, refl, refl); P12 = (refl, refl, refl); K1-spoilt = (refl, refl, refl); K1-ends = (refl, refl, refl, refl); K1-passed = (refl, refl, refl); K2-empty = empty; K2-counts = counts; K2-raw = raw; K2-longer = λ datagram fits x more. (kept datagram fits x more, longer datagram fits, read-7 datagram fits); K3-order = (refl, refl, refl); K3-missing = (refl, refl); short-7 = λ rest room size. other-7 rest room (λ e. omega (arith, size, e)); burst-lengths = rw (images .0, images .1, images .2) }
+cases = record { P1 = refl; P2 = refl; P3 = refl; P4 = seven-wrong; P5 = eight-wrong; P6 = nine-wrong; P7 = (p7-y0, p7-y1); P8 = p8; P9 = p9; P10 = (held-by-12, too-long); P11 = (refl, refl, refl); P12 = (refl, refl, refl); K1-spoilt = (refl, refl, refl); K1-ends = (refl, refl, refl, refl); K1-passed = (refl, refl, refl); K2-empty = empty; K2-counts = counts; K2-raw = raw; K2-longer = λ datagram fits x more. (kept datagram fits x more, longer datagram fits, read-7 datagram fits); K3-order = (refl, refl, refl); K3-missing = (refl, refl); K4-lengths = lengths-4; K4-held = held-by-4; K4-blocks-only = (offered-4, no-slot-written, no-slot-read); short-7 = λ rest room size. other-7 rest room (λ e. omega (arith, size, e)); burst-lengths = rw (images .0, images .1, images .2) }

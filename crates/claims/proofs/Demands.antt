@@ -7,11 +7,12 @@ use native.Mathlib.Omega.{arith}
 use lib.ListN.{length}
 use Rattle.answers.proofs.Determined.{one-content}
 use Rattle.answers.proofs.Task as t
+use Rattle.links.specs.Patterns.{patterns, tails, clocksIn, flagsAt, total}
 use Rattle.links.specs.Rows.{rows, rowOf}
+use Rattle.links.specs.Sizes.{passedOn, tailBits, imageLength}
 use Rattle.links.proofs.Facts.{sizes}
 use Rattle.links.proofs.Good.{good}
 use Rattle.links.proofs.GoodFlags.{pattern, clock-at}
-use Rattle.links.proofs.Table.{image-lengths}
 use Rattle.turbo.proofs.Permutation.{position-in-range, position-injective, position-onto}
 use Rattle.turbo.proofs.Weave.{clock-passes, parity-alone}
 use Rattle.words.proofs.Apart.{apart}
@@ -83,7 +84,7 @@ demand1 = record {
 }
 
 pub demand2 : Demand2
-unfolding rows
+unfolding rows patterns tails clocksIn flagsAt total passedOn tailBits imageLength
 demand2 = record {
   links = refl;
   words-written = λ n old new answer h room wr. words.written n old new answer wr h room;
@@ -93,7 +94,7 @@ demand2 = record {
   interleaver-once = λ link o. position-injective (rowOf link) (good link o);
   interleaver-onto = λ link o. position-onto (rowOf link) (good link o);
   block-product = λ link o. sizes (rowOf link) (good link o) .product;
-  image-lengths = image-lengths;
+  image-lengths = refl;
   x-once = λ link o s. let clock = clock-at _ (pattern (rowOf link) (good link o)) s in (clock .x, clock .x');
   x-passes = λ link o s a b x y.
       let clock = clock-at _ (pattern (rowOf link) (good link o)) s in

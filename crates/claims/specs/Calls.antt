@@ -91,7 +91,7 @@ taskLines task room =
     (line noRoom (room < task .size)
     none))
 
--- as a block, the link being one of the twenty-two; as a slot burst, one of 5, 6, 7
+-- as a block, the link being one of the twenty-three; as a slot burst, one of 5, 6, 7
 abbrev pub writeBlockLines : ℕ → List ℕ → ℕ → Lines
 writeBlockLines link datagram room = taskLines (blockTask link datagram) room
 

@@ -2,19 +2,19 @@
 use mathlib.Core.Path.{_≡_}
 use mathlib.Core.Bool.{Bool, true, false, not}
 use mathlib.Core.List.{List, [], _∷_, _++_, map}
-use Prim.Native.Nat.{ℕ, zero, suc, _≤_}
+use Prim.Native.Nat.{ℕ, zero, suc, _+_, _*_, _≤_}
 use lib.ListN.{length, take, drop, replicate}
-use Rattle.answers.specs.Numbers.{done, wrongLength, noWord, pastEnd, smallLength, brokenFill, fewLeft, messagePastEnd}
+use Rattle.answers.specs.Numbers.{done, notOffered, wrongLength, noWord, pastEnd, smallLength, brokenFill, fewLeft, messagePastEnd}
 use Rattle.answers.specs.Outcome.{refusal}
 use Rattle.bits.specs.Bits.{byte}
 use Rattle.blocks.specs.Calls.{writeBlock}
-use Rattle.links.specs.Patterns.{flags}
-use Rattle.links.specs.Rows.{rowOf}
-use Rattle.links.specs.Sizes.{bytesHeld}
+use Rattle.links.specs.Patterns.{flags, patternOf, tailOf}
+use Rattle.links.specs.Rows.{offered, rowOf}
+use Rattle.links.specs.Sizes.{openBits, bytesHeld, passedOn, tailBits, imageLength}
 use Rattle.messages.specs.Step.{stepMessage, finished, message, lie, refused as step-refused}
 use Rattle.parts.specs.State.{stop, state, fresh, taken, heard}
 use Rattle.slots.specs.Burst.{headOf, burstOf, burstLength}
-use Rattle.slots.specs.Calls.{readSlot, refused as slot-refused}
+use Rattle.slots.specs.Calls.{writeSlot, readSlot, refused as slot-refused}
 use Rattle.turbo.specs.Encoder.{start, next, y0, y1}
 use Rattle.turbo.specs.Interleaver.{position}
 use Rattle.turbo.specs.Coded.{endingOf}
@@ -82,6 +82,15 @@ pub record Cases : Type 0 where
   pub K3-order : (stepMessage (1 ∷ 0 ∷ 6 ∷ []) 0 ≡ lie smallLength 0 0) × (stepMessage (1 ∷ 0 ∷ 7 ∷ []) 0 ≡ lie messagePastEnd 0 4) × (stepMessage (1 ∷ 0 ∷ []) 0 ≡ lie fewLeft 0 0)
   -- 65,535 declared in 3 bytes, behind 81 81; last spring's lie, 900 declared in 32 bytes
   pub K3-missing : (stepMessage (81 ∷ 81 ∷ 1 ∷ 255 ∷ 255 ∷ []) 0 ≡ lie messagePastEnd 2 65532) × (stepMessage (74 ∷ 3 ∷ 132 ∷ replicate 29 0) 0 ≡ lie messagePastEnd 0 868)
+  -- document 02, K4: link 4's 952 clocks are 158 periods of six and four clocks of one more, which is cut there; they give 1,269 bits, and
+  -- the tail, by Table 6, 12
+  pub K4-lengths : (rowOf 4 .k ≡ 158 * 6 + 4) × (length (patternOf (rowOf 4 .pattern)) ≡ 6) × (passedOn (patternOf (rowOf 4 .pattern)) 0 (rowOf 4 .k) ≡ 1269)
+      × (tailBits (tailOf (rowOf 4 .tail)) ≡ 12) × (imageLength (rowOf 4) ≡ 1269 + 12)
+  -- it holds 115 bytes, with no bits over
+  pub K4-held : (bytesHeld (rowOf 4) ≡ 115) × (openBits (rowOf 4) ≡ 115 * 8)
+  -- it has blocks, and no slot bursts: these are refused with 1, in writing whatever the datagram is, in reading whatever stands behind its head
+  pub K4-blocks-only : (offered 4 ≡ true) × ((datagram : List ℕ) (room : ℕ) → writeSlot 4 datagram room ≡ refusal notOffered)
+      × ((rest : List Bool) (room : ℕ) → readSlot (map byte (headOf 4 ++ rest)) room ≡ slot-refused notOffered)
   -- a slot burst of 480 bits under link 7's word
   pub short-7 : (rest : List Bool) (room : ℕ) → length rest ≡ 394 → readSlot (map byte (headOf 7 ++ rest)) room ≡ slot-refused wrongLength
   -- the lengths of slot bursts

@@ -105,9 +105,10 @@ pub record Demand1 : Type 1 where
       → ReadParts before after old new answer → ReadParts before after' old new' answer' → new ≡ new'
 
 pub record Demand2 : Type 0 where
-  -- "Link words, blocks and slot bursts are those of ITU-R M.2092-1, for the twenty-two links that document 01 lists": they are what
-  -- is written whenever the request can be met. That the definitions are the Recommendation's is read beside it, and tried
-  pub links : map (λ row. row .link) rows ≡ 5 ∷ 6 ∷ 7 ∷ 8 ∷ 9 ∷ 10 ∷ 11 ∷ 12 ∷ 13 ∷ 14 ∷ 15 ∷ 16 ∷ 17 ∷ 18 ∷ 19 ∷ 20 ∷ 21 ∷ 22 ∷ 23 ∷ 25 ∷ 32 ∷ 33 ∷ []
+  -- "Link words, blocks and slot bursts are those of ITU-R M.2092-1, for the twenty-two links that document 01 lists", and link 4, by
+  -- document 02's K4: "All three demands read over twenty-three links." They are what is written whenever the request can be met. That the
+  -- definitions are the Recommendation's is read beside it, and tried
+  pub links : map (λ row. row .link) rows ≡ 4 ∷ 5 ∷ 6 ∷ 7 ∷ 8 ∷ 9 ∷ 10 ∷ 11 ∷ 12 ∷ 13 ∷ 14 ∷ 15 ∷ 16 ∷ 17 ∷ 18 ∷ 19 ∷ 20 ∷ 21 ∷ 22 ∷ 23 ∷ 25 ∷ 32 ∷ 33 ∷ []
   pub words-written : (n : ℕ) (old new : List ℕ) (answer : Written) → n ≤ 63 → 32 ≤ length old
       → WroteWord n old new answer → (answer .status ≡ done) × (answer .count ≡ 32) × (take 32 new ≡ map byte (wordBits n))
   pub blocks-written : (link : ℕ) (datagram old new : List ℕ) (answer : Written) → offered link ≡ true → length datagram ≤ bytesHeld (rowOf link) → imageLength (rowOf link) ≤ length old
@@ -123,7 +124,7 @@ pub record Demand2 : Type 0 where
   -- and k is k1 times k2
   pub block-product : (link : ℕ) → offered link ≡ true → rowOf link .k1 * rowOf link .k2 ≡ rowOf link .k
   -- N of each link, in the order of `links`
-  pub image-lengths : map imageLength rows ≡ 394 ∷ 906 ∷ 1418 ∷ 396 ∷ 908 ∷ 1420 ∷ 874 ∷ 1308 ∷ 1740 ∷ 1804 ∷ 2700 ∷ 3596 ∷ 3754 ∷ 5388 ∷ 7500 ∷ 402 ∷ 1112 ∷ 4692 ∷ 6828 ∷ 9562 ∷ 1269 ∷ 12855 ∷ []
+  pub image-lengths : map imageLength rows ≡ 1281 ∷ 394 ∷ 906 ∷ 1418 ∷ 396 ∷ 908 ∷ 1420 ∷ 874 ∷ 1308 ∷ 1740 ∷ 1804 ∷ 2700 ∷ 3596 ∷ 3754 ∷ 5388 ∷ 7500 ∷ 402 ∷ 1112 ∷ 4692 ∷ 6828 ∷ 9562 ∷ 1269 ∷ 12855 ∷ []
   -- at every clock s of every link's block X passes once and X' never: of its six flags, for X Y0 Y1 X' Y'0 Y'1, the first is 1 and the
   -- fourth is 0
   pub x-once : (link : ℕ) → offered link ≡ true → (s : ℕ) → let flags = flagsAt (patternOf (rowOf link .pattern)) s in (getD flags 0 0 ≡ 1) × (getD flags 3 0 ≡ 0)

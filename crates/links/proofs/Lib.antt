@@ -7,4 +7,3 @@ pub mod Padded
 pub mod PassedOn
 pub mod Places
 pub mod Search
-pub mod Table

@@ -28,10 +28,6 @@ unfolding placeIn
 place-end rs link i h = rw (drop-of-length-le rs {i = i} h)
 
 -- ---- offered links
-pub row-count : length rows ≡ 22
-unfolding rows
-row-count = refl
-
 pub offered-place : (link : ℕ) → offered link ≡ true → place link < length rows
 unfolding offered
 offered-place link e = ltb-true (place link) (length rows) e

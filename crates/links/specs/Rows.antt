@@ -1,4 +1,4 @@
--- The table of the offered links (M.2092-1, Table 4; document 01, "The links"), one row to a line.
+-- The table of the offered links (M.2092-1, Table 4; document 01, "The links", and document 02, K4), one row to a line.
 use mathlib.Core.Bool.{Bool, cond}
 use mathlib.Core.List.{List, [], _∷_}
 use Prim.Native.Nat.{ℕ, suc}
@@ -10,10 +10,11 @@ abbrev pub row : ℕ → ℕ → ℕ → ℕ → List ℕ → ℕ → ℕ → Ro
 row link k k1 k2 primes pattern tail =
     record { link = link; k = k; k1 = k1; k2 = k2; primes = primes; pattern = pattern; tail = tail }
 
--- link, k, k1, k2, p1 .. p8, pattern, tail
+-- link, k, k1, k2, p1 .. p8, pattern, tail. Table 4 prints 240 for link 4's k2; its k, 952, makes it 238 (document 02, K4)
 unfoldable pub rows : List Row
 rows =
-    row 5 288 2 144 (47 ∷ 17 ∷ 233 ∷ 127 ∷ 239 ∷ 139 ∷ 199 ∷ 163 ∷ []) 0x8 0x8b
+    row 4 952 4 238 (113 ∷ 31 ∷ 59 ∷ 163 ∷ 29 ∷ 181 ∷ 101 ∷ 11 ∷ []) 0x8 0x8
+    ∷ row 5 288 2 144 (47 ∷ 17 ∷ 233 ∷ 127 ∷ 239 ∷ 139 ∷ 199 ∷ 163 ∷ []) 0x8 0x8b
     ∷ row 6 672 2 336 (37 ∷ 101 ∷ 191 ∷ 149 ∷ 79 ∷ 131 ∷ 229 ∷ 31 ∷ []) 0x8 0x8b
     ∷ row 7 1056 4 264 (23 ∷ 31 ∷ 167 ∷ 223 ∷ 59 ∷ 113 ∷ 47 ∷ 211 ∷ []) 0x8 0x8b
     ∷ row 8 192 2 96 (31 ∷ 37 ∷ 43 ∷ 47 ∷ 53 ∷ 59 ∷ 61 ∷ 67 ∷ []) 0x6 0x6

@@ -1,4 +1,4 @@
-// The links that are offered (M.2092-1, Table 4; document 01, "The links"), with the patterns and tails that they use.
+// The links that are offered (M.2092-1, Table 4; document 01, "The links", and document 02, K4), with the patterns and tails that they use.
 mod flags;
 
 pub use flags::clocks;
@@ -23,15 +23,16 @@ pub struct Row {
 }
 
 // How many rows the table has.
-const ROWS: usize = 22;
+const ROWS: usize = 23;
 
 // The longest block and the longest image of its links.
 pub const LONGEST_BLOCK: usize = 5616;
 
 pub const LONGEST_IMAGE: usize = 12855;
 
-// Table 4: link, k, k1, k2, pattern, tail.
+// Table 4: link, k, k1, k2, pattern, tail. Link 4's k2 is printed as 240; its k makes it 238.
 const TABLE_4: [[u32; 6]; ROWS] = [
+    [4, 952, 4, 238, 0x8, 0x8],
     [5, 288, 2, 144, 0x8, 0x8b],
     [6, 672, 2, 336, 0x8, 0x8b],
     [7, 1056, 4, 264, 0x8, 0x8b],
@@ -58,6 +59,7 @@ const TABLE_4: [[u32; 6]; ROWS] = [
 
 // Table 4: the primes p1 .. p8 of the same rows.
 const PRIMES: [[u32; 8]; ROWS] = [
+    [113, 31, 59, 163, 29, 181, 101, 11],
     [47, 17, 233, 127, 239, 139, 199, 163],
     [37, 101, 191, 149, 79, 131, 229, 31],
     [23, 31, 167, 223, 59, 113, 47, 211],
@@ -84,6 +86,7 @@ const PRIMES: [[u32; 8]; ROWS] = [
 
 // N of the same rows, the bits of an image: what the clocks and the tail pass on, proved to be that sum.
 const IMAGE_LENGTHS: [usize; ROWS] = [
+    1281,
     394,
     906,
     1418,

@@ -62,7 +62,7 @@ fn archive_reads_written_blocks(given: &Given, test: &mut Test) {
     }
 }
 
-/// Every place of a block of each link, of three blocks on five of them; on the longest 2,000 places
+/// Every place of a block of each link, of three blocks on six of them; on the longest 2,000 places
 /// and the last hundred.
 fn archive_mends_every_wrong_bit(given: &Given, test: &mut Test) {
     let second = Second::read(&given.tables);
@@ -71,7 +71,7 @@ fn archive_mends_every_wrong_bit(given: &Given, test: &mut Test) {
     for link in second.links.all() {
         let n = link.image_length();
         let blocks = match link.number {
-            5 | 8 | 12 | 20 | 32 => 3,
+            4 | 5 | 8 | 12 | 20 | 32 => 3,
             _ => 1,
         };
         for _ in 0..blocks {
@@ -178,7 +178,7 @@ fn archive_keeps_the_bits_over_zero(given: &Given, test: &mut Test) {
     }
 }
 
-/// In every place on links 5 and 20, in the first, the last and random places on the others.
+/// In every place on links 4, 5 and 20, in the first, the last and random places on the others.
 fn archive_refuses_non_bits_in_blocks(given: &Given, test: &mut Test) {
     let second = Second::read(&given.tables);
     let mut random = test.random(209);
@@ -187,7 +187,7 @@ fn archive_refuses_non_bits_in_blocks(given: &Given, test: &mut Test) {
         let n = link.image_length();
         let written = image_of(link, &random_datagram(link, &mut random));
         let places = match link.number {
-            5 | 20 => (0..n).collect(),
+            4 | 5 | 20 => (0..n).collect(),
             _ => [vec![0, n - 1], random.places(30, n)].concat(),
         };
         for place in places {

@@ -27,7 +27,7 @@ pub const TESTS: &[NamedTest] = named_tests![
 ];
 
 /// The links on which a datagram of every length is written.
-const EVERY_LENGTH: [u32; 5] = [5, 8, 12, 20, 32];
+const EVERY_LENGTH: [u32; 6] = [4, 5, 8, 12, 20, 32];
 
 /// With and without the twenty zero bytes that the fill puts there.
 fn archive_writes_the_worked_block(given: &Given, test: &mut Test) {

@@ -5,6 +5,7 @@ mod blocks_writing;
 mod coding;
 mod fill;
 mod lies;
+mod link_4;
 mod links;
 mod messages;
 mod outside;
@@ -40,6 +41,7 @@ pub fn all() -> Vec<NamedTest> {
         lies::TESTS,
         blocks_writing::TESTS,
         blocks_reading::TESTS,
+        link_4::TESTS,
         slots_writing::TESTS,
         slots_reading::TESTS,
         slots_refusals::TESTS,

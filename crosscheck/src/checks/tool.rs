@@ -122,7 +122,7 @@ fn tool_writes_blocks(given: &Given, test: &mut Test) {
             runs(given, test, &command, digits.as_bytes(), expected());
         }
     }
-    for number in ["0", "4", "24"].into_iter().chain(TOO_LARGE) {
+    for number in ["0", "3", "24"].into_iter().chain(TOO_LARGE) {
         let command = format!("write {number}");
         runs(given, test, &command, &[7; 6000], no_link(number));
     }

@@ -8,12 +8,11 @@ use crate::second::words::Refusal;
 use crate::second::Second;
 
 /// Numbers of no link, of links not offered, and numbers that end in the bits of link 5.
-pub const NOT_OFFERED: [u32; 18] = [
+pub const NOT_OFFERED: [u32; 17] = [
     0,
     1,
     2,
     3,
-    4,
     24,
     26,
     31,
@@ -36,6 +35,12 @@ pub type Writing = (u32, usize, usize);
 pub fn writing_blocks() -> Vec<(Writing, Refusal)> {
     let not_offered = NOT_OFFERED.map(|link| ((link, 6000, 0), 1));
     let of_offered = [
+        ((4, 116, 0), 2),
+        ((4, 116, 1280), 2),
+        ((4, 116, 1281), 2),
+        ((4, 115, 0), 3),
+        ((4, 115, 1280), 3),
+        ((4, 0, 1280), 3),
         ((5, 33, 0), 2),
         ((5, 33, 393), 2),
         ((5, 33, 394), 2),
@@ -55,7 +60,7 @@ pub fn writing_blocks() -> Vec<(Writing, Refusal)> {
 /// A link that has no slot burst, then a datagram too long, then a buffer too short, be it for the
 /// training alone.
 pub fn writing_slots() -> Vec<(Writing, Refusal)> {
-    let offered_for_blocks = (8..=23).chain([25, 32, 33]);
+    let offered_for_blocks = (8..=23).chain([4, 25, 32, 33]);
     let of_no_slot = NOT_OFFERED.into_iter().chain(offered_for_blocks);
     let mut faults: Vec<_> = of_no_slot.map(|link| ((link, 6000, 0), 1)).collect();
     for (link, bytes, length) in SLOT_SIZES {

@@ -1,8 +1,10 @@
-//! Reads Tables 4, 5 and 6 of M.2092-1, what document 01 prints about the links, and the numbers
-//! worked out from both. A row that is not just as expected is an error.
+//! Reads Tables 4, 5 and 6 of M.2092-1, what documents 01 and 02 print about the links, and the
+//! numbers worked out from them. A row that is not just as expected is an error.
 
+use crate::second::link_4::{Request, Table23};
 use crate::second::links::{Clock, Link, Links};
 use crate::second::tables::rows;
+use std::iter;
 use std::path::Path;
 use std::str::FromStr;
 
@@ -36,7 +38,11 @@ pub struct LinkTables {
     pub table4: Vec<Table4Row>,
     pub table5: Vec<Flags>,
     pub table6: Vec<Flags>,
-    pub offered: Vec<Row>,
+    pub table23: Table23,
+    /// Document 01's list of links.
+    pub listed: Vec<Row>,
+    /// Document 02's K4.
+    pub link_4: Request,
     /// Document 01's sentence: each pattern and the outputs that pass at its clocks.
     pub patterns: Vec<(String, Vec<Clock>)>,
     pub numbers: Vec<Numbers>,
@@ -71,20 +77,32 @@ impl LinkTables {
             table4: of_each(&rows("table4.txt")?, table4_row)?,
             table5: of_each(&rows("table5.txt")?, flags)?,
             table6: of_each(&rows("table6.txt")?, flags)?,
-            offered: offered(&rows("links.txt")?)?,
+            table23: Table23::parsed(&rows("table23.txt")?)?,
+            listed: listed(&rows("links.txt")?)?,
+            link_4: Request::parsed(&rows("request_k4.txt")?)?,
             patterns: patterns(&rows("patterns.txt")?)?,
             numbers: of_each(&rows("numbers.txt")?, numbers)?,
         })
     }
 
-    /// The links of document 01's list, each with what Table 4 prints for it.
+    /// The row of an offered link: what Table 4 prints, but for link 4 with Table 23's k2.
+    pub fn row(&self, number: u32) -> Row {
+        let printed = &self.table4_row(number).row;
+        match number {
+            4 => self.table23.settled(printed),
+            _ => printed.clone(),
+        }
+    }
+
+    /// Link 4 and the links of document 01's list, each with its row.
     pub fn links(&self) -> Links {
-        let links = self.offered.iter().map(|listed| self.link(listed.number));
-        Links::new(links.collect())
+        let listed = self.listed.iter().map(|listed| listed.number);
+        let numbers = iter::once(4).chain(listed);
+        Links::new(numbers.map(|number| self.link(number)).collect())
     }
 
     fn link(&self, number: u32) -> Link {
-        let row = &self.table4_row(number).row;
+        let row = self.row(number);
         let pattern = clocks_of(&self.table5, &row.pattern);
         let tail = clocks_of(&self.table6, &row.tail);
         Link {
@@ -168,7 +186,7 @@ fn flags(row: &str) -> Result<Flags, String> {
 }
 
 /// The sentence `S means the primes ...`, then | link | k | k1 k2 | primes or S | pattern, tail |.
-fn offered(rows: &[String]) -> Result<Vec<Row>, String> {
+fn listed(rows: &[String]) -> Result<Vec<Row>, String> {
     let [sentence, list @ ..] = rows else {
         return Err("no list of links".to_string());
     };
@@ -255,14 +273,14 @@ fn between<'a>(text: &'a str, before: &str, behind: &str) -> Result<&'a str, Str
         .ok_or(format!("not {before:?} ... {behind:?}: {text:?}"))
 }
 
-fn number<T: FromStr>(printed: &str) -> Result<T, String> {
+pub fn number<T: FromStr>(printed: &str) -> Result<T, String> {
     printed
         .parse()
         .map_err(|_| format!("not a number: {printed:?}"))
 }
 
 /// Numbers with a space between them.
-fn numbers_of<const COUNT: usize>(printed: &str) -> Result<[usize; COUNT], String> {
+pub fn numbers_of<const COUNT: usize>(printed: &str) -> Result<[usize; COUNT], String> {
     let numbers: Result<Vec<usize>, String> = printed.split(' ').map(number).collect();
     numbers?
         .try_into()

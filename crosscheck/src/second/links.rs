@@ -1,4 +1,4 @@
-//! The links (M.2092-1, Annex 2, Tables 4, 5 and 6; document 01, "The links").
+//! The links (M.2092-1, Annex 2, Tables 4, 5 and 6; document 01, "The links"; document 02, K4).
 
 /// How many copies of X, Y0, Y1, X', Y'0 and Y'1 pass at one clock.
 pub type Clock = [usize; 6];
@@ -56,7 +56,7 @@ impl Link {
     }
 }
 
-/// The links that document 01 offers, in its order.
+/// The links that are offered, in Table 4's order.
 pub struct Links(Vec<Link>);
 
 impl Links {

@@ -8,6 +8,7 @@ pub mod datagrams;
 pub mod encoder;
 pub mod images;
 pub mod interleaver;
+pub mod link_4;
 pub mod link_tables;
 pub mod links;
 pub mod messages;

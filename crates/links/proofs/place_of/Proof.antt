@@ -8,7 +8,7 @@ use lib.ListN.{length, drop}
 use borrow.Author.Needs.{needs}
 use Rattle.links.specs.Rows.{rows, placeIn, place}
 use Rattle.links.proofs.Places.{numbers, link-is}
-use Rattle.links.proofs.Search.{row-count, place-here, place-further, place-end}
+use Rattle.links.proofs.Search.{place-here, place-further, place-end}
 use Rattle.links.proofs.place_of.Statement.{statement}
 use Rattle.links.proofs.place_of.Tie as tie
 
@@ -27,19 +27,21 @@ unfolding rows
 returns c =
     let at = c .before .before .before .loop in
     let link = c .before .before .before .before .args .link in
-    omega (arith, at .inv .2, place-here rows link (at .i) (omega (arith, row-count)) (sym (link-is (at .i) (omega arith)) ∙ c .if1 .taken))
+    omega (arith, at .inv .2, place-here rows link (at .i) (omega arith) (sym (link-is (at .i) (omega arith)) ∙ c .if1 .taken))
 
 loop-again : tie.Need-loop-again Inv-loop μ-loop
 unfolding rows
 loop-again c =
     let at = c .before .before .before .loop in
     let link = c .before .before .before .before .args .link in
-    (search needs, at .inv .1, omega (arith, at .inv .2, place-further rows link (at .i) (omega (arith, row-count)) (λ e. c .if1 .left (link-is (at .i) (omega arith) ∙ e))))
+    (search needs, at .inv .1, omega (arith, at .inv .2, place-further rows link (at .i) (omega arith) (λ e. c .if1 .left (link-is (at .i) (omega arith) ∙ e))))
 
 returns-2 : tie.Need-returns-2 Inv-loop μ-loop
-returns-2 c = omega (arith, row-count, c .before .loop .inv .2, place-end rows (c .before .before .args .link) (c .before .loop .i) (omega (arith, row-count)))
+unfolding rows
+returns-2 c = omega (arith, c .before .loop .inv .2, place-end rows (c .before .before .args .link) (c .before .loop .i) (omega arith))
 
 pub place-of-spec : {M : Type 1} → statement M
+unfolding rows
 place-of-spec =
     tie.close
     (tie.spec
@@ -48,7 +50,6 @@ place-of-spec =
     loop-holds
     (λ c. search needs) (λ c. search needs) (λ c. search needs)
     returns
-    (λ c. search needs)
-    (λ c. search (needs, row-count))
+    (λ c. search needs) (λ c. search needs)
     loop-again
     returns-2)
