@@ -99,6 +99,17 @@ pub fn reading_blocks(second: &Second) -> Vec<(BlockRequest, Refusal)> {
     ] {
         faults.push(((5, vec![byte; length], buffer), refusal));
     }
+    for link in second.links.all() {
+        let (n, bytes) = (link.image_length(), link.bytes());
+        for (length, buffer, refusal) in [
+            (n - 1, bytes - 1, 2),
+            (n + 1, bytes - 1, 2),
+            (n, bytes - 1, 3),
+            (n, bytes, 4),
+        ] {
+            faults.push(((link.number, vec![2; length], buffer), refusal));
+        }
+    }
     let good = second.write_block(5, &[9; 32], 394).expect("a block");
     for place in 0..394 {
         let mut row = good.clone();
