@@ -7,11 +7,12 @@
 # make refusals: the first error of each must-fail edit, from the logs of the last gate.
 # make soak: not in the gate. CALLS calls of each kind, random, damaged and malformed, the archive against the second implementation.
 # make bench: nanoseconds per block and ratios to a plain writer in C, and of slot bursts by parts to whole ones, measured in one run.
+# make against OTHER=ARCHIVE: this archive's times and ratios to those of another, say an earlier one, measured in one run.
 # make stack: bytes of stack that each call takes, against what the header says.
 # make picture: draws docs/slot-burst.svg again, from the header's numbers.
 # make clean: removes build/; the proofs and the archive in target/ stay.
 # make help: these lines. CC and CFLAGS are the caller's where they are given.
-.PHONY: help run tool install uninstall check-install test refusals soak bench stack picture clean prefix
+.PHONY: help run tool install uninstall check-install test refusals soak bench against build/other.a stack picture clean prefix
 .DEFAULT_GOAL := help
 
 ifeq ($(origin CC),default)
@@ -101,6 +102,18 @@ bench: build/bench
 BENCH = bench/bench.c bench/parts.c bench/plain.c bench/rounds.c
 build/bench: $(BENCH) bench/bench.h bench/plain.h $(HEADER) $(ARCHIVE) | build
 	$(COMPILE) -O3 $(BENCH) $(ARCHIVE) $(LDFLAGS) -o $@
+
+against: build/against
+	build/against
+
+# The other archive, with two of its calls under other names and the rest hidden; made anew each time, for OTHER may be another.
+build/other.a: $(OTHER) | build
+	@test -n "$(OTHER)" || { echo "make against OTHER=ARCHIVE" >&2; exit 1; }
+	$$($(CC) -print-prog-name=objcopy) --redefine-sym decklewren_write_block=other_write_block \
+	  --redefine-sym decklewren_read_block=other_read_block -G other_write_block -G other_read_block $(OTHER) $@
+
+build/against: bench/against.c bench/rounds.c bench/bench.h $(HEADER) $(ARCHIVE) build/other.a
+	$(COMPILE) -O3 bench/against.c bench/rounds.c $(ARCHIVE) build/other.a $(LDFLAGS) -o $@
 
 stack: build/stack
 	build/stack

@@ -1,123 +1,107 @@
--- Pair by pair: those from j on are left to lay. Assumes nothing.
+-- Pair by pair: those from j on are left to lay, and x is what document 01's formula gives for pair j. Assumes nothing.
 use mathlib.Core.Path.{_≡_, _∙_}
-use Prim.Native.Nat.{_^_, _<_, ℕ, _+_, _-_, _*_, _≤_}
-use native.Mathlib.Nat.{mod-lt}
+use Prim.Native.Nat.{_+_, _-_, _*_, _<_, _≤_}
 use native.Mathlib.Omega.{arith}
-use lib.ListN.{length, getD, length-set}
-use mir.Val.{Fits}
-use mir.Syntax.{w32}
+use lib.ListN.{length, length-set}
 use borrow.Author.Needs.{needs}
-use Rattle.lists.specs.working.Laying.{Laying}
-use Rattle.lists.proofs.Over.{fits, done}
+use Rattle.lists.proofs.Over.{done}
+use Rattle.links.specs.working.Good.{longestBlock}
 use Rattle.links.proofs.Facts.{sizes}
-use Rattle.interleaver.proofs.Laid.{position-code, row-small, pair-small, inputs, pairsFrom, pairs-start, pairs-done, pairs-more, pairs-next, pairs-room, position-inside}
-use Rattle.turbo.proofs.Permutation.{digitsPosition}
+use Rattle.interleaver.proofs.Laid.{Pairs, pairs-start, pairs-done, pairs-next, pairs-room, next-row}
+use Rattle.interleaver.proofs.Started.{place-is, t-is, step-is}
+use Rattle.interleaver.proofs.Stepping.{cellAt, cell-inside, distance-small, row-begins, next-pair, second-of-pair}
 use Rattle.interleaver.proofs.lay_row.Statement.{statement}
 use Rattle.interleaver.proofs.lay_row.Tie as tie
 
 abbrev Inv-loop : tie.InvT-loop
-Inv-loop row i u v₀ k2 t q p j₀ v j =
-    (j ≤ row .k2) × Laying v₀ (2 * (i * row .k2)) (inputs row u (2 * (i * row .k2)) (2 * row .k2)) v (2 * (i * row .k2 + j)) (pairsFrom row u i j)
+Inv-loop row start u v₀ apart x₀ j₀ j-end v x j = (j ≤ row .k2) × (x ≡ cellAt row 0 (start .i) j) × Pairs row u (start .place) v₀ v j
 
 abbrev μ-loop : tie.MeasureT-loop
-μ-loop row i u v₀ k2 t q p j₀ v j = row .k2 - j
+μ-loop row start u v₀ apart x₀ j₀ j-end v x j = row .k2 - j
 
--- a prime is a number of 32 bits
-held : (c : tie.After-primes Inv-loop μ-loop) (n : ℕ) → Fits w32 (getD (c .before .before .before .args .row .primes) n 0)
-held c n = search needs
-
-small : (c : tie.After-primes Inv-loop μ-loop) (n : ℕ) → getD (c .before .before .before .args .row .primes) n 0 < 2 ^ 32
-small c n = omega (arith, held c n)
-
-mul-t : tie.Need-mul-t Inv-loop μ-loop
-mul-t c =
+mul-x : tie.Need-mul-x Inv-loop μ-loop
+mul-x c =
     let st = c .before .before .before .before in
-    record { fits = omega (arith, row-small (st .args .row) (st .pre .0) (st .args .i) (st .pre .1)) }
-
-add-t : tie.Need-add-t Inv-loop μ-loop
-add-t c =
-    let st = c .before .before .before .before in
-    record { fits = omega (arith, row-small (st .args .row) (st .pre .0) (st .args .i) (st .pre .1)) }
-
-rem-t : tie.Need-rem-t Inv-loop μ-loop
-rem-t c = sizes (c .before .before .before .before .before .args .row) (c .before .before .before .before .before .pre .0) .half
+    let row = st .args .row in
+    let start = st .args .start in
+    record { fits = omega (arith, t-is row start (st .pre .2), row-begins row (st .pre .0) (start .i), cell-inside row (st .pre .0) 0 (start .i) 0, sizes row (st .pre .0) .block) }
 
 loop-holds : tie.Need-loop-holds Inv-loop μ-loop
 loop-holds c =
     let st = c .before .before .before .before .before in
-    let a = st .args in
-    (search needs, pairs-start (a .row) (a .u .now) (st .pre .0) (a .i) (st .pre .1) (a .v .now) (st .pre .3))
+    let row = st .args .row in
+    let start = st .args .start in
+    let ends = next-row row (st .pre .0) (start .i) (st .pre .1) in (
+      search needs,
+      rw (t-is row start (st .pre .2)) (row-begins row (st .pre .0) (start .i)),
+      pairs-start row (st .args .u .now) (start .place) (st .args .v .now) (omega (arith, place-is row start (st .pre .2), ends, st .pre .4)),
+    )
 
-mul-s : tie.Need-mul-s Inv-loop μ-loop
-mul-s c =
+-- the pair's places in v, and where x is in u
+room : (c : tie.In-loop Inv-loop μ-loop) → c .before .before .before .before .before .before .before .args .start .place + 2 * c .before .loop .j + 1 < length (c .before .loop .v)
+room c =
     let st = c .before .before .before .before .before .before .before in
-    record { fits = omega (arith, pair-small (st .args .row) (st .pre .0) (st .args .i) (c .before .loop .j) (st .pre .1) (omega arith)) }
+    let at = c .before .loop in
+    let start = st .args .start in
+    pairs-room (st .args .row) (st .args .u .now) (st .pre .0) (st .pre .5) (start .i) (start .place) (place-is (st .args .row) start (st .pre .2)) (at .j) (omega arith) (at .inv .2)
 
-add-s : tie.Need-add-s Inv-loop μ-loop
-add-s c =
+small : (c : tie.In-loop Inv-loop μ-loop) → c .before .before .before .before .before .before .before .args .start .place + 2 * c .before .loop .j + 1 < longestBlock
+small c =
     let st = c .before .before .before .before .before .before .before in
-    record { fits = omega (arith, pair-small (st .args .row) (st .pre .0) (st .args .i) (c .before .loop .j) (st .pre .1) (omega arith)) }
+    omega (arith, room c, c .before .loop .inv .2 .long, st .pre .4, sizes (st .args .row) (st .pre .0) .block)
 
-mul-s-2 : tie.Need-mul-s-2 Inv-loop μ-loop
-mul-s-2 c =
+inside : (c : tie.In-loop Inv-loop μ-loop) → c .before .loop .x + 1 < c .before .before .before .before .before .before .before .args .row .k
+inside c =
     let st = c .before .before .before .before .before .before .before in
-    record { fits = omega (arith, pair-small (st .args .row) (st .pre .0) (st .args .i) (c .before .loop .j) (st .pre .1) (omega arith)) }
+    let at = c .before .loop in
+    omega (arith, at .inv .1, cell-inside (st .args .row) (st .pre .0) 0 (st .args .start .i) (at .j))
 
-position-requires : tie.Need-position-requires Inv-loop μ-loop
-position-requires c κs =
-    let st = c .before .before .before .before .before .before .before in
-    (st .pre .0, mod-lt _ (sizes (st .args .row) (st .pre .0) .half), search (small (c .before .before .before .before)), search needs, search needs)
-
--- the first position of the pair, and that it is one of the block
-first-is : (c : tie.After-position Inv-loop μ-loop) → c .position .result ≡ digitsPosition (c .before .before .before .before .before .before .before .before .args .row) 0 (c .before .before .before .before .before .before .before .before .args .i) (c .before .before .loop .j)
-first-is c = c .position .ensures ∙ position-code (c .before .before .before .before .before .before .before .before .args .row) 0 (c .before .before .before .before .before .before .before .before .args .i) (c .before .before .loop .j)
-
-first-inside : (c : tie.After-position Inv-loop μ-loop) → (1 ≤ c .position .result) × (c .position .result ≤ length (c .before .before .before .before .before .before .before .before .args .u .now))
-first-inside c =
+add-first : tie.Need-add-first Inv-loop μ-loop
+add-first c =
     let st = c .before .before .before .before .before .before .before .before in
-    rw (first-is c) (position-inside (st .args .row) (st .args .u .now) (st .pre .0) (st .pre .2) (st .pre .4) 0 (st .args .i) (c .before .before .loop .j) (omega arith) (omega arith))
+    record { fits = omega (arith, inside (c .before), sizes (st .args .row) (st .pre .0) .block) }
 
-slice-write-v : tie.Need-slice-write-v Inv-loop μ-loop
-slice-write-v c =
+stepped-requires : tie.Need-stepped-requires Inv-loop μ-loop
+stepped-requires c κs =
     let st = c .before .before .before .before .before .before .before .before .before in
-    let at = c .before .before .before .loop in
-    fits _ _ (at .inv .1) (pairs-more (st .args .row) (st .args .u .now) (st .pre .0) (st .pre .2) (st .pre .4) (st .args .i) (at .j) (omega arith))
+    (omega (arith, inside (c .before .before)), rw (c .before .before .before .before .before .before .distance .ensures) (distance-small (st .args .row) (st .pre .0) _))
 
-position-requires-2 : tie.Need-position-requires-2 Inv-loop μ-loop
-position-requires-2 c κs =
-    let st = c .before .before .before .before .before .before .before .before .before in
-    (st .pre .0, mod-lt _ (sizes (st .args .row) (st .pre .0) .half), search (small (c .before .before .before .before .before .before)), search needs, search needs)
-
--- the second
-second-is : (c : tie.After-position2 Inv-loop μ-loop) → c .position2 .result ≡ digitsPosition (c .before .before .before .before .before .before .before .before .before .before .args .row) 1 (c .before .before .before .before .before .before .before .before .before .before .args .i) (c .before .before .before .before .loop .j)
-second-is c = c .position2 .ensures ∙ position-code (c .before .before .before .before .before .before .before .before .before .before .args .row) 1 (c .before .before .before .before .before .before .before .before .before .before .args .i) (c .before .before .before .before .loop .j)
-
-second-inside : (c : tie.After-position2 Inv-loop μ-loop) → (1 ≤ c .position2 .result) × (c .position2 .result ≤ length (c .before .before .before .before .before .before .before .before .before .before .args .u .now))
-second-inside c =
+-- the second of the pair is where the formula says, and both are in u
+second-is : (c : tie.After-stepped Inv-loop μ-loop) → c .stepped .result ≡ cellAt (c .before .before .before .before .before .before .before .before .before .before .args .row) 1 (c .before .before .before .before .before .before .before .before .before .before .args .start .i) (c .before .before .before .before .loop .j)
+second-is c =
     let st = c .before .before .before .before .before .before .before .before .before .before in
-    rw (second-is c) (position-inside (st .args .row) (st .args .u .now) (st .pre .0) (st .pre .2) (st .pre .4) 1 (st .args .i) (c .before .before .before .before .loop .j) (omega arith) (omega arith))
+    let at = c .before .before .before .before .loop in
+    c .stepped .ensures ∙ rw (at .inv .1, c .before .before .before .before .before .before .before .distance .ensures) (second-of-pair (st .args .row) (st .pre .0) (st .args .start .i) (at .j))
 
-add-v : tie.Need-add-v Inv-loop μ-loop
-add-v c =
-    let st = c .before .before .before .before .before .before .before .before .before .before .before in
-    record { fits = omega (arith, pair-small (st .args .row) (st .pre .0) (st .args .i) (c .before .before .before .before .before .loop .j) (st .pre .1) (omega arith)) }
+inside-u : (c : tie.After-stepped Inv-loop μ-loop) → (c .before .before .before .before .loop .x + 1 < length (c .before .before .before .before .before .before .before .before .before .before .args .u .now)) × (c .stepped .result < length (c .before .before .before .before .before .before .before .before .before .before .args .u .now))
+inside-u c =
+    let st = c .before .before .before .before .before .before .before .before .before .before in
+    let long = st .pre .3 in (
+      omega (arith, inside (c .before .before .before), long),
+      omega (arith, second-is c, cell-inside (st .args .row) (st .pre .0) 1 (st .args .start .i) (c .before .before .before .before .loop .j), long),
+    )
 
-slice-write-v-2 : tie.Need-slice-write-v-2 Inv-loop μ-loop
-slice-write-v-2 c =
-    let st = c .before .before .before .before .before .before .before .before .before .before .before in
-    let at = c .before .before .before .before .before .loop in
-    simp length-set (pairs-room (st .args .row) (st .args .u .now) (st .pre .0) (st .pre .2) (st .pre .4) (st .args .i) (at .j) (omega arith) (at .inv .1))
+stepped-requires-2 : tie.Need-stepped-requires-2 Inv-loop μ-loop
+stepped-requires-2 c κs =
+    let st = c .before .before .before .before .before .before .before .before .before .before .before .before .before in
+    let row = st .args .row in
+    (omega (arith, inside (c .before .before .before .before .before .before)), rw (step-is row (st .args .start) (st .pre .2)) (distance-small row (st .pre .0) _))
 
 loop-again : tie.Need-loop-again Inv-loop μ-loop
 loop-again c =
-    let st = c .before .before .before .before .before .before .before .before .before .before .before in
-    let at = c .before .before .before .before .before .loop in
-    (search needs, rw (first-is (c .before .before .before), second-is (c .before)) (pairs-next (st .args .row) (st .args .u .now) (st .pre .0) (st .pre .2) (st .pre .4) (st .args .i) (at .j) (omega arith) (at .inv .1)))
+    let st = c .before .before .before .before .before .before .before .before .before .before .before .before .before .before in
+    let at = c .before .before .before .before .before .before .before .before .loop in
+    let row = st .args .row in
+    let start = st .args .start in (
+      search needs,
+      c .stepped2 .ensures ∙ rw (at .inv .1, step-is row start (st .pre .2)) (next-pair row (st .pre .0) (start .i) (at .j)),
+      pairs-next row (st .args .u .now) (st .pre .0) (st .pre .5) (start .i) (start .place) (place-is row start (st .pre .2)) (at .j) _ _ (omega arith) (omega (arith, at .inv .1)) (second-is (c .before .before .before .before)) (at .inv .2),
+    )
 
 returns : tie.Need-returns Inv-loop μ-loop
 returns c =
     let st = c .before .before .before .before .before .before .before in
-    done (c .before .loop .inv .1) (pairs-done (st .args .row) (st .args .u .now) (st .args .i) (c .before .loop .j) (omega arith)) .1
+    done (c .before .loop .inv .2) (pairs-done (st .args .row) (st .args .u .now) (st .args .start .place) (c .before .loop .j) (omega arith)) .1
 
 pub lay-row-spec : {M : Type 1} → statement M
 lay-row-spec =
@@ -125,26 +109,23 @@ lay-row-spec =
     (tie.spec
     Inv-loop
     μ-loop
+    (λ c κs. (c .before .before .pre .0, omega arith))
+    mul-x
     (λ c. search needs)
-    mul-t
-    add-t
-    (λ c. search needs)
-    rem-t
-    (λ c. search needs) (λ c. search needs) (λ c. search needs) (λ c. search needs) (λ c. search needs)
     loop-holds
-    mul-s
-    add-s
-    mul-s-2
-    position-requires
-    (λ c. first-inside c .0)
-    (λ c. omega (arith, first-inside (c .before)))
-    slice-write-v
-    position-requires-2
-    (λ c. second-inside c .0)
-    (λ c. omega (arith, second-inside (c .before)))
-    add-v
-    slice-write-v-2
+    (λ c. record { fits = omega (arith, small c) })
+    (λ c. record { fits = omega (arith, small (c .before)) })
+    add-first
+    (λ c. search needs)
+    stepped-requires
+    (λ c. omega (arith, inside-u (c .before)))
+    (λ c. omega (arith, room (c .before .before .before .before)))
+    (λ c. omega (arith, inside-u (c .before .before)))
+    (λ c. record { fits = omega (arith, small (c .before .before .before .before .before)) })
+    (λ c. simp length-set (room (c .before .before .before .before .before)))
+    (λ c. search needs)
+    stepped-requires-2
     (λ c. search needs) (λ c. search needs)
     loop-again
-    (λ c. c .before .loop .inv .1 .long)
+    (λ c. c .before .loop .inv .2 .long)
     returns)
