@@ -22,20 +22,14 @@ halved left part =
 small : (n x sum left part : ℕ) → n < 2 ^ 16 → x < 2 ^ 32 → 0 < left → sum + left * part ≡ n * x → sum + part ≤ 2 ^ 48
 small n x sum left part hn hx some e = omega (arith, e, mul-le-mul-right part some, one-mul part, mul-le-mul-right x hn)
 
+small-here : (c : tie.In-loop Inv-loop μ-loop) → c .before .loop .sum + c .before .loop .part ≤ 2 ^ 48
+small-here c =
+    let at = c .before .loop in
+    let st = c .before .before in
+    small (st .args .n) (st .args .x) (at .sum) (at .left) (at .part) (st .pre .0) (st .pre .1) (omega arith) (at .inv)
+
 loop-holds : tie.Need-loop-holds Inv-loop μ-loop
 loop-holds c = zero-add _
-
-add-sum : tie.Need-add-sum Inv-loop μ-loop
-add-sum c =
-    let at = c .before .before .loop in
-    let st = c .before .before .before in
-    record { fits = omega (arith, small (st .args .n) (st .args .x) (at .sum) (at .left) (at .part) (st .pre .0) (st .pre .1) (omega arith) (at .inv)) }
-
-mul-part : tie.Need-mul-part Inv-loop μ-loop
-mul-part c =
-    let at = c .before .before .loop in
-    let st = c .before .before .before in
-    record { fits = omega (arith, small (st .args .n) (st .args .x) (at .sum) (at .left) (at .part) (st .pre .0) (st .pre .1) (omega arith) (at .inv)) }
 
 loop-again : tie.Need-loop-again Inv-loop μ-loop
 loop-again c =
@@ -53,4 +47,14 @@ returns c =
     omega (arith, at .inv, ap (λ (left : ℕ). left * at .part) none, zero-mul (at .part))
 
 pub times-spec : {M : Type 1} → statement M
-times-spec = tie.close (tie.spec Inv-loop μ-loop loop-holds add-sum mul-part (λ c. omega arith) loop-again returns)
+times-spec =
+    tie.close
+    (tie.spec
+    Inv-loop
+    μ-loop
+    loop-holds
+    (λ c. record { fits = omega (arith, small-here (c .before)) })
+    (λ c. record { fits = omega (arith, small-here (c .before)) })
+    (λ c. omega arith)
+    loop-again
+    returns)
