@@ -24,6 +24,10 @@ module _ (row : Row) (good : T (goodRow row)) where
   some-width : 0 < row .k2
   some-width = sizes row good .width
 
+  -- k2 cells of c, each k1 wide
+  pub block-of-cells : row .k ≡ row .k2 * row .k1
+  block-of-cells = sym (sizes row good .product) ∙ mul-comm (row .k1) (row .k2)
+
   pub t-inside : (i : ℕ) → tFrom row i < half row
   t-inside i = mod-lt (19 * i + 1) (sizes row good .half)
 
@@ -39,11 +43,10 @@ module _ (row : Row) (good : T (goodRow row)) where
   cell-inside m i j =
       let c = cFrom row m (tFrom row i) j in
       let ends = digits-lt {q = c} {m = row .k2} {r = 2 * tFrom row i + 1} {c = row .k1} (mod-lt _ some-width) (omega (arith, t-inside i, sizes row good .even)) in
-      omega (arith, mul-comm (row .k1) (row .k2), sizes row good .product, ends)
+      omega (arith, block-of-cells, ends)
 
   pub distance-small : (n : ℕ) → distance row n ≤ row .k
-  distance-small n =
-      omega (arith, mul-comm (row .k1) (row .k2), sizes row good .product, mul-le-mul-right (row .k1) (le-of-lt (mod-lt n some-width)))
+  distance-small n = omega (arith, block-of-cells, mul-le-mul-right (row .k1) (le-of-lt (mod-lt n some-width)))
 
   -- n further on in c, with a wrap at k
   cell-on : (t c n : ℕ) → t < half row → (cell row t (c % row .k2) + distance row n) % row .k ≡ cell row t ((c + n) % row .k2)
@@ -51,8 +54,7 @@ module _ (row : Row) (good : T (goodRow row)) where
       let y = c % row .k2 + n % row .k2 in
       let inside : 2 * t < row .k1 = omega (arith, sizes row good .even) in
       let joined : cell row t (c % row .k2) + distance row n ≡ cell row t y = omega (arith, add-mul (c % row .k2) (n % row .k2) (row .k1)) in
-      let block : row .k ≡ row .k2 * row .k1 = sym (sizes row good .product) ∙ mul-comm (row .k1) (row .k2) in
-      ap₂ {A = ℕ} {B = ℕ} {C = ℕ} _%_ joined block
+      ap₂ {A = ℕ} {B = ℕ} {C = ℕ} _%_ joined block-of-cells
       ∙ mod-mul (cell row t y) some-width (omega (arith, inside))
       ∙ ap₂ (λ (c' t' : ℕ). c' % row .k2 * row .k1 + t') (digits-div y inside) (digits-mod y inside)
       ∙ ap (cell row t) (sym (add-mod c n (row .k2)))

@@ -8,12 +8,12 @@ use borrow.Author.Needs.{needs}
 use Rattle.links.specs.declared.Row.{Row}
 use Rattle.links.specs.working.Good.{goodRow}
 use Rattle.links.proofs.Facts.{sizes}
+use Rattle.interleaver.proofs.Stepping.{block-of-cells}
 use Rattle.interleaver.proofs.distance.Statement.{statement}
 use Rattle.interleaver.proofs.distance.Tie as tie
 
 k1-small : (row : Row) → T (goodRow row) → row .k1 < 2 ^ 16
-k1-small row good =
-    omega (arith, sizes row good .product, sizes row good .block, mul-comm (row .k1) (row .k2), mul-le-mul-right (row .k1) (sizes row good .width), one-mul (row .k1))
+k1-small row good = omega (arith, block-of-cells row good, sizes row good .block, mul-le-mul-right (row .k1) (sizes row good .width), one-mul (row .k1))
 
 reduced-requires : tie.Need-reduced-requires
 reduced-requires c κs = let st = c .before in sizes (st .args .row) (st .pre .0) .width
