@@ -7,18 +7,21 @@
 #include <string.h>
 #include <ucontext.h>
 
-/* One request: which call, its link, position or state's count, how many bytes or bits it is given, and the room for its answer. */
+/* One request: which call, its link, position, start or state's count, how many bytes or bits it is given, and the room for its
+   answer. */
 typedef struct {
     unsigned call;
     uint32_t link;
     size_t given, room;
 } request;
 
-enum { WRITE_WORD, READ_WORD, WRITE_BLOCK, READ_BLOCK, WRITE_SLOT, READ_SLOT, TAKE_PART, READ_PARTS, STEP_MESSAGE, CALLS };
-enum { PAINTED = 262144 };
+enum { WRITE_WORD, READ_WORD, WRITE_BLOCK, READ_BLOCK, WRITE_SLOT, READ_SLOT, TAKE_PART, READ_PARTS, STEP_MESSAGE, WRITE_MESSAGE,
+       ZERO_FILL, CALLS };
+enum { PAINTED = 262144, LONGEST = DECKLEWREN_MESSAGE_HEAD + DECKLEWREN_BODY_MOST };
 
 static uint8_t stack[PAINTED];
 static uint8_t datagram[DECKLEWREN_HELD_MOST + 1], bits[DECKLEWREN_IMAGE_MOST], out[DECKLEWREN_IMAGE_MOST];
+static uint8_t type, body[DECKLEWREN_BODY_MOST + 1], buffer[LONGEST + 1];
 static decklewren_parts parts;
 static request asked;
 static const uint8_t *at_the_call;
@@ -39,7 +42,9 @@ static void make_call(void) {
     case READ_SLOT: status = decklewren_read_slot(bits, asked.given, out, asked.room).status; break;
     case TAKE_PART: decklewren_take_part(&parts.count, parts.bits, bits, asked.given); break;
     case READ_PARTS: status = decklewren_read_parts(&parts.count, parts.bits, out, asked.room).status; break;
-    default: status = decklewren_step_message(datagram, asked.given, asked.link).status; break;
+    case STEP_MESSAGE: status = decklewren_step_message(datagram, asked.given, asked.link).status; break;
+    case WRITE_MESSAGE: status = decklewren_write_message(buffer, asked.room, asked.link, type, 1, body, asked.given).status; break;
+    default: status = decklewren_zero_fill(buffer, asked.room, asked.link).status; break;
     }
     (void)status;
 }
@@ -58,11 +63,12 @@ static size_t depth_on(uint8_t paint) {
     return (size_t)(at_the_call - stack) - lowest;
 }
 
-static const char *const names[CALLS] = {"write_word", "read_word", "write_block", "read_block",  "write_slot",
-                                         "read_slot",  "take_part", "read_parts",  "step_message"};
-static const size_t told[CALLS] = {DECKLEWREN_STACK_WRITE_WORD, DECKLEWREN_STACK_READ_WORD,  DECKLEWREN_STACK_WRITE_BLOCK,
-                                   DECKLEWREN_STACK_READ_BLOCK, DECKLEWREN_STACK_WRITE_SLOT, DECKLEWREN_STACK_READ_SLOT,
-                                   DECKLEWREN_STACK_TAKE_PART,  DECKLEWREN_STACK_READ_PARTS, DECKLEWREN_STACK_STEP_MESSAGE};
+static const char *const names[CALLS] = {"write_word", "read_word",  "write_block",  "read_block",    "write_slot", "read_slot",
+                                         "take_part",  "read_parts", "step_message", "write_message", "zero_fill"};
+static const size_t told[CALLS] = {DECKLEWREN_STACK_WRITE_WORD,    DECKLEWREN_STACK_READ_WORD,  DECKLEWREN_STACK_WRITE_BLOCK,
+                                   DECKLEWREN_STACK_READ_BLOCK,    DECKLEWREN_STACK_WRITE_SLOT, DECKLEWREN_STACK_READ_SLOT,
+                                   DECKLEWREN_STACK_TAKE_PART,     DECKLEWREN_STACK_READ_PARTS, DECKLEWREN_STACK_STEP_MESSAGE,
+                                   DECKLEWREN_STACK_WRITE_MESSAGE, DECKLEWREN_STACK_ZERO_FILL};
 static size_t most[CALLS];
 
 /* The state holds the bits and the request's count each time: a call changes it. */
@@ -163,6 +169,26 @@ static void measure_steps(void) {
     }
 }
 
+/* Messages of short, long and too long bodies with enough room and with too little, at a datagram's start, inside it, at its end and
+   past it, of a type that is none too; and zeros from the same starts on. */
+static void measure_laying(void) {
+    enum { MOST = DECKLEWREN_BODY_MOST };
+    static const size_t lengths[] = {0, 1, 2, 8, 15, 16, 17, 63, 64, 65, 300, 4096, MOST - 1, MOST, MOST + 1};
+    static const size_t rooms[] = {0, 6, 7, 8, 80, 307, LONGEST, LONGEST + 1};
+    for (size_t n = 0; n < sizeof rooms / sizeof *rooms; n++) {
+        const size_t starts[] = {0, 1, rooms[n] / 2, rooms[n], rooms[n] + 1};
+        for (size_t at = 0; at < sizeof starts / sizeof *starts; at++) {
+            type = 81;
+            measure(WRITE_MESSAGE, (uint32_t)starts[at], 0, rooms[n]);
+            type = 74;
+            for (size_t of = 0; of < sizeof lengths / sizeof *lengths; of++) {
+                measure(WRITE_MESSAGE, (uint32_t)starts[at], lengths[of], rooms[n]);
+            }
+            measure(ZERO_FILL, (uint32_t)starts[at], 0, rooms[n]);
+        }
+    }
+}
+
 int main(void) {
     int above = 0;
     measure_words();
@@ -175,8 +201,9 @@ int main(void) {
     DECKLEWREN_SLOT_LINKS(PARTS)
     for (uint32_t position = 0; position < 10; position++) measure(STEP_MESSAGE, position, 8, 0);
     measure_steps();
+    measure_laying();
     for (unsigned call = 0; call < CALLS; call++) {
-        printf("%-12s %6zu bytes, the header says %zu\n", names[call], most[call], told[call]);
+        printf("%-13s %6zu bytes, the header says %zu\n", names[call], most[call], told[call]);
         above |= most[call] == 0 || most[call] > told[call];
     }
     return above;

@@ -27,15 +27,18 @@ static const sizes links[] = {DECKLEWREN_LINKS(SIZES)};
 static const sizes slot_links[] = {DECKLEWREN_SLOT_LINKS(BURST)};
 enum { LINKS = sizeof links / sizeof *links, SLOT_LINKS = sizeof slot_links / sizeof *slot_links };
 
-/* Where each field of a step stands and how wide it is; check_steps holds the archive to it. Held while compiling: behind a shorter
-   struct the archive would write over what is not its own. */
-#define FIELD(name, place, size) \
-    static_assert(offsetof(decklewren_step, name) == place && sizeof(((decklewren_step *)0)->name) == size, #name);
-FIELD(status, 0, 4)
-FIELD(start, 8, 8)
-FIELD(length, 16, 8)
-FIELD(missing, 24, 8)
+/* Where each field of a step and of what laying answers stands and how wide it is; check_steps and check_messages hold the archive to
+   it. Held while compiling: behind a shorter struct the archive would write over what is not its own. */
+#define FIELD(type, name, place, size) \
+    static_assert(offsetof(type, name) == place && sizeof(((type *)0)->name) == size, #type " " #name);
+FIELD(decklewren_step, status, 0, 4)
+FIELD(decklewren_step, start, 8, 8)
+FIELD(decklewren_step, length, 16, 8)
+FIELD(decklewren_step, missing, 24, 8)
 static_assert(sizeof(decklewren_step) == 32, "bytes of a step");
+FIELD(decklewren_laid, status, 0, 4)
+FIELD(decklewren_laid, count, 8, 8)
+static_assert(sizeof(decklewren_laid) == 16, "bytes of what laying answers");
 
 static uint8_t datagram[DECKLEWREN_HELD_MOST + 1], bits[DECKLEWREN_IMAGE_MOST + DECKLEWREN_BURST_MOST];
 
@@ -85,6 +88,63 @@ static void check_steps(void) {
         expect("length of step", n, steps[n].length, step.length);
         expect("missing of step", n, steps[n].missing, step.missing);
     }
+}
+
+/* Ten bytes 9, before something is laid into them. */
+static const uint8_t nines[10] = {9, 9, 9, 9, 9, 9, 9, 9, 9, 9};
+
+/* Each number of laying a message with the body 5 6, and what then stands where the nines stood. */
+static void check_messages(void) {
+    static const uint8_t body[2] = {5, 6};
+    static const struct {
+        uint32_t status;
+        size_t start;
+        uint8_t type;
+        uint64_t count;
+        uint8_t bytes[10];
+    } messages[] = {
+        {DECKLEWREN_DONE, 0, 74, 9, {74, 0, 9, 1, 2, 3, 4, 5, 6, 9}},
+        {DECKLEWREN_DONE, 1, 255, 9, {9, 255, 0, 9, 1, 2, 3, 4, 5, 6}},
+        {DECKLEWREN_PAST_END, 11, 0, 0, {9, 9, 9, 9, 9, 9, 9, 9, 9, 9}},
+        {DECKLEWREN_NO_TYPE, 0, 0, 0, {9, 9, 9, 9, 9, 9, 9, 9, 9, 9}},
+        {DECKLEWREN_NO_TYPE, 10, 81, 0, {9, 9, 9, 9, 9, 9, 9, 9, 9, 9}},
+        {DECKLEWREN_NO_ROOM, 2, 74, 0, {9, 9, 9, 9, 9, 9, 9, 9, 9, 9}},
+        {DECKLEWREN_NO_ROOM, 10, 74, 0, {9, 9, 9, 9, 9, 9, 9, 9, 9, 9}},
+    };
+    for (unsigned n = 0; n < sizeof messages / sizeof *messages; n++) {
+        memcpy(datagram, nines, sizeof nines);
+        decklewren_laid laid = decklewren_write_message(datagram, sizeof nines, messages[n].start, messages[n].type, 0x01020304, body,
+                                                        sizeof body);
+        expect("status of message", n, messages[n].status, laid.status);
+        expect("count of message", n, messages[n].count, laid.count);
+        expect("bytes of message", n, 0, (uint64_t)memcmp(datagram, messages[n].bytes, sizeof nines));
+    }
+}
+
+/* Zeros from each start on, and past the end. */
+static void check_zeros(void) {
+    for (unsigned start = 0; start <= sizeof nines + 1; start++) {
+        uint8_t expected[sizeof nines];
+        size_t kept = start <= sizeof nines ? start : sizeof nines;
+        memset(expected, 0, sizeof expected);
+        memcpy(expected, nines, kept);
+        memcpy(datagram, nines, sizeof nines);
+        decklewren_laid laid = decklewren_zero_fill(datagram, sizeof nines, start);
+        expect("status of zeros from", start, start == kept ? DECKLEWREN_DONE : DECKLEWREN_PAST_END, laid.status);
+        expect("count of zeros from", start, sizeof nines - kept, laid.count);
+        expect("bytes of zeros from", start, 0, (uint64_t)memcmp(datagram, expected, sizeof nines));
+    }
+}
+
+/* The longest body just fits behind its head, and no longer one is taken, though there is room. */
+static void check_longest(void) {
+    enum { MOST = DECKLEWREN_BODY_MOST, LONGEST = DECKLEWREN_MESSAGE_HEAD + MOST };
+    static uint8_t body[MOST + 1], buffer[LONGEST + 1];
+    expect("BODY_MOST", 0, LONGEST, decklewren_write_message(buffer, LONGEST, 0, 74, 1, body, MOST).count);
+    expect("BODY_MOST, length", 0, LONGEST, decklewren_step_message(buffer, LONGEST, 0).length);
+    expect("BODY_MOST, room", 0, DECKLEWREN_NO_ROOM, decklewren_write_message(buffer, LONGEST - 1, 0, 74, 1, body, MOST).status);
+    expect("LONG_BODY", 0, DECKLEWREN_LONG_BODY, decklewren_write_message(buffer, LONGEST + 1, 0, 74, 1, body, MOST + 1).status);
+    expect("MESSAGE_HEAD", 0, DECKLEWREN_MESSAGE_HEAD, decklewren_write_message(buffer, LONGEST, 0, 74, 1, body, 0).count);
 }
 
 /* A link holds just so many bytes, and its image and its datagram need just so much room. */
@@ -159,7 +219,7 @@ static void check_parts(void) {
 
 /* Every status has words of its own, and a number that is none has those of no status. */
 static void check_words(void) {
-    for (uint32_t status = 0; status <= 13; status++) {
+    for (uint32_t status = 0; status <= 15; status++) {
         for (uint32_t other = 0; other < status; other++) {
             int same = strcmp(decklewren_status_text(status), decklewren_status_text(other)) == 0;
             expect("words shared with another status by", status, 0, (uint64_t)same);
@@ -167,7 +227,7 @@ static void check_words(void) {
     }
 #define WORDS(name, number, text) expect("words of", number, 0, (uint64_t)strcmp(decklewren_status_text(name), text));
     DECKLEWREN_STATUSES(WORDS)
-    expect("words of no status", 0, 0, (uint64_t)strcmp(decklewren_status_text(13), decklewren_status_text(UINT32_MAX)));
+    expect("words of no status", 0, 0, (uint64_t)strcmp(decklewren_status_text(15), decklewren_status_text(UINT32_MAX)));
 }
 
 static void check_version(void) {
@@ -208,6 +268,9 @@ int main(void) {
     check_word_numbers();
     check_other_numbers();
     check_steps();
+    check_messages();
+    check_zeros();
+    check_longest();
     for (size_t n = 0; n < LINKS; n++) check_link(links[n]);
     for (size_t n = 0; n < SLOT_LINKS; n++) check_slot_link(slot_links[n]);
     check_lists();

@@ -1,22 +1,29 @@
-/* One ice notice through its day: 80 bytes of messages ashore, their burst of two slots, one bit decided wrongly at sea, the
-   datagram there and its messages. Then last spring's lie: a burst of one slot whose message declares 900 bytes. */
+/* One ice notice through its day: three messages laid into 80 bytes ashore, their burst of two slots, one bit decided wrongly at sea,
+   the datagram there and its messages. Then last spring's lie: a burst of one slot whose message declares 900 bytes. It is made by
+   hand, for the library does not write it. */
 #include "decklewren.h"
 #include <stdio.h>
 #include <string.h>
 
-/* Bytes of a short data message before its text (M.2092-1, Annex 4, Table 39): type, length, source, session, destination. */
-enum { TEXT = 12 };
+/* Bytes of a short data message between its source and its text (M.2092-1, Annex 4, Table 39), session and destination, and all those
+   before its text. */
+enum { ADDRESS = 5, TEXT = DECKLEWREN_MESSAGE_HEAD + ADDRESS };
 
 /* Bits of the longest slot burst, and the bytes that its link holds. */
 enum { BURST = DECKLEWREN_BURST_MOST, HELD = DECKLEWREN_HELD_7 };
 
-/* Lays a short data message from source 1 to all stations at a position and answers where it ends. */
-static size_t lay_message(uint8_t *datagram, size_t position, const char *text) {
-    size_t length = TEXT + strlen(text);
-    const uint8_t head[TEXT] = {93, (uint8_t)(length / 256), (uint8_t)(length % 256), 0, 0, 0, 1};
-    memcpy(datagram + position, head, TEXT);
-    memcpy(datagram + position + TEXT, text, length - TEXT);
-    return position + length;
+/* Shows what was laid from a start on, and answers where it ends. */
+static size_t show_laid(const char *what, size_t start, decklewren_laid laid) {
+    printf("%s laid at %u: status %u, count %u\n", what, (unsigned)start, (unsigned)laid.status, (unsigned)laid.count);
+    return start + (size_t)laid.count;
+}
+
+/* Lays a short data message from source 1 to all stations, with a text of at most HELD bytes, and answers where it ends. */
+static size_t lay_message(uint8_t *datagram, size_t datagram_len, size_t start, const char *text) {
+    uint8_t body[ADDRESS + HELD] = {0};
+    size_t length = strlen(text);
+    memcpy(body + ADDRESS, text, length);
+    return show_laid("a message", start, decklewren_write_message(datagram, datagram_len, start, 93, 1, body, ADDRESS + length));
 }
 
 /* Prints bytes as hexadecimal digits, twenty bytes to a line. */
@@ -80,11 +87,12 @@ static uint8_t at_sea[HELD];
 
 static void show_notice(void) {
     uint8_t ashore[80];
-    memset(ashore, 81, sizeof ashore);
-    size_t end = lay_message(ashore, 0, "ICE 65.1N 24.1E 40CM");
-    end = lay_message(ashore, end, "RIDGES TO 23.5E");
-    lay_message(ashore, end, "TUG 0900");
+    memset(ashore, 0xff, sizeof ashore); /* what an earlier notice left is laid over */
     printf("the ice notice, %u bytes ashore:\n", (unsigned)sizeof ashore);
+    size_t end = lay_message(ashore, sizeof ashore, 0, "ICE 65.1N 24.1E 40CM");
+    end = lay_message(ashore, sizeof ashore, end, "RIDGES TO 23.5E");
+    end = lay_message(ashore, sizeof ashore, end, "TUG 0900");
+    show_laid("zeros", end, decklewren_zero_fill(ashore, sizeof ashore, end));
     show_bytes(ashore, sizeof ashore);
     size_t bits = write_burst(6, ashore, sizeof ashore, burst);
     show_bits(burst, bits);

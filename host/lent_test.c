@@ -70,6 +70,23 @@ static void check_null_elsewhere(void) {
     expect("step_message at the largest", 0, DECKLEWREN_PAST_END, decklewren_step_message(NULL, 0, SIZE_MAX).status);
 }
 
+/* A message without a body at NULL is one without a body; a datagram at NULL has room for no message and for no zero. */
+static void check_null_messages(void) {
+    static const uint8_t message[DECKLEWREN_MESSAGE_HEAD] = {74, 0, 7, 0, 0, 0, 1};
+    expect("write_message, body NULL", 0, sizeof message, decklewren_write_message(out, sizeof message, 0, 74, 1, NULL, 0).count);
+    expect("write_message, its bytes", 0, 0, (uint64_t)memcmp(out, message, sizeof message));
+    expect("write_message, datagram NULL", 0, DECKLEWREN_NO_ROOM, decklewren_write_message(NULL, 0, 0, 74, 1, message, 7).status);
+    expect("write_message, both NULL", 0, DECKLEWREN_NO_ROOM, decklewren_write_message(NULL, 0, 0, 74, 1, NULL, 0).status);
+    expect("write_message, no type", 0, DECKLEWREN_NO_TYPE, decklewren_write_message(NULL, 0, 0, 81, 1, NULL, 0).status);
+    expect("write_message at 1", 0, DECKLEWREN_PAST_END, decklewren_write_message(NULL, 0, 1, 81, 1, NULL, 0).status);
+    expect("write_message at the largest", 0, DECKLEWREN_PAST_END,
+           decklewren_write_message(NULL, 0, SIZE_MAX, 74, 1, NULL, 0).status);
+    decklewren_laid zeros = decklewren_zero_fill(NULL, 0, 0);
+    expect("zero_fill at 0, done", 0, DECKLEWREN_DONE, zeros.status + zeros.count);
+    expect("zero_fill at 1", 0, DECKLEWREN_PAST_END, decklewren_zero_fill(NULL, 0, 1).status);
+    expect("zero_fill at the largest", 0, DECKLEWREN_PAST_END, decklewren_zero_fill(NULL, 0, SIZE_MAX).status);
+}
+
 /* A burst written and read, and a message found, with every buffer this many bytes behind an address that 64 divides. */
 static void check_address(size_t off) {
     static _Alignas(64) uint8_t row[DECKLEWREN_BURST_MOST + 64], from[DECKLEWREN_HELD_7 + 64], to[DECKLEWREN_HELD_7 + 64];
@@ -101,6 +118,20 @@ static void check_parts_address(size_t off) {
     expect("read_parts, bits cleared", at, 0, (uint64_t)memcmp(row, state, sizeof state));
 }
 
+/* A message and zeros laid, with the datagram and the body this many bytes behind an address that 64 divides. */
+static void check_laying_address(size_t off) {
+    static _Alignas(64) uint8_t to[100 + 64], from[80 + 64];
+    uint32_t at = (uint32_t)off;
+    for (size_t n = 0; n < 80; n++) from[off + n] = (uint8_t)(n * 37 + off);
+    memset(to, 9, sizeof to);
+    expect("write_message at an address", at, 87, decklewren_write_message(to + off, 100, 5, 74, 1, from + off, 80).count);
+    expect("write_message, equal bytes", at, 0, (uint64_t)memcmp(to + off + 12, from + off, 80));
+    expect("step_message behind it", at, 87, decklewren_step_message(to + off, 100, 5).length);
+    expect("zero_fill at an address", at, 8, decklewren_zero_fill(to + off, 100, 92).count);
+    expect("step_message, finished", at, 0, decklewren_step_message(to + off, 100, 92).status);
+    expect("bytes around them", at, 9 + 9, (uint64_t)to[off + 4] + to[off + 100]);
+}
+
 int main(void) {
     check_null_words();
 #define NULL_BLOCKS(link, held, image) check_null_blocks(link, held, image);
@@ -110,8 +141,10 @@ int main(void) {
 #define NULL_PARTS(link, burst) check_null_parts(link, burst);
     DECKLEWREN_SLOT_LINKS(NULL_PARTS)
     check_null_elsewhere();
+    check_null_messages();
     for (size_t off = 0; off < 64; off++) check_address(off);
     for (size_t off = 0; off < 64; off++) check_parts_address(off);
+    for (size_t off = 0; off < 64; off++) check_laying_address(off);
     printf("%u passed, %u failed\n", passed, failed);
     return failed != 0;
 }

@@ -15,25 +15,30 @@ static const char help[] =
     "  write-slot LINK [-x]        writes the slot burst of a datagram\n"
     "  read-slot [-x] [--parts N]  reads a slot burst, whole or by parts of N bits, and prints the datagram\n"
     "  step [POSITION] [-x]        prints start and length of each message of a datagram, or of the next from a position on\n"
+    "  write-message --type T --source S [-x] [--into FILE [--at START]]\n"
+    "                              writes the message of a body, alone or into the datagram in a file (at 0 if no start is given)\n"
+    "  zero-fill SIZE [-x]         fills a datagram with zeros up to SIZE bytes\n"
     "  damage N [--seed S]         inverts N different bits; the same ones each time for one seed (1 if none is given)\n"
     "  help                        prints this, as --help and -h do; --version prints the version\n"
     "\n"
-    "Input comes from standard input, at most 64 KiB. Bits are characters 0 and 1 and end with a newline; one newline at\n"
-    "the end of the input is no bit. Datagrams are bytes, or hexadecimal digits with -x. Counts go to standard error, once\n"
-    "the output is written. Places and positions count from 0, characters of the input from 1.\n"
+    "Input comes from standard input and FILE, each at most 64 KiB. Bits are characters 0 and 1 and end with a newline;\n"
+    "one newline at the end of the input is no bit. Datagrams and bodies are bytes, or hexadecimal digits with -x. Counts\n"
+    "go to standard error, once the output is written. Places and positions count from 0, characters of the input from 1.\n"
     "Exit status: 0 done; 1 refused, with the reason on standard error and nothing on standard output; 2 wrong usage;\n"
-    "3 standard input cannot be read or standard output cannot be written.\n";
+    "3 input cannot be read or output cannot be written.\n";
 
 static const command commands[] = {
-    {"links", NONE, 0, 0, 0, run_links},
-    {"word", NEEDED, 0, 0, 0, run_word},
-    {"read-word", NONE, 0, 0, 0, run_read_word},
-    {"write", NEEDED, 1, 0, 0, run_write},
-    {"read", NEEDED, 1, 0, 0, run_read},
-    {"write-slot", NEEDED, 1, 0, 0, run_write_slot},
-    {"read-slot", NONE, 1, 1, 0, run_read_slot},
-    {"step", OPTIONAL, 1, 0, 0, run_step},
-    {"damage", NEEDED, 0, 0, 1, run_damage},
+    {"links", NONE, 0, run_links},
+    {"word", NEEDED, 0, run_word},
+    {"read-word", NONE, 0, run_read_word},
+    {"write", NEEDED, HEX, run_write},
+    {"read", NEEDED, HEX, run_read},
+    {"write-slot", NEEDED, HEX, run_write_slot},
+    {"read-slot", NONE, HEX | PARTS, run_read_slot},
+    {"step", OPTIONAL, HEX, run_step},
+    {"write-message", NONE, TYPE | SOURCE | HEX | INTO | AT, run_write_message},
+    {"zero-fill", NEEDED, HEX, run_zero_fill},
+    {"damage", NEEDED, SEED, run_damage},
 };
 
 static const command *find(const char *name) {

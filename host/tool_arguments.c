@@ -1,4 +1,4 @@
-/* What stands behind a command: a number, -x, --parts, --seed. Wrong usage is told by what is wrong with it. */
+/* What stands behind a command: a number and options. Wrong usage is told by what is wrong with it. */
 #include "tool.h"
 #include <stdarg.h>
 #include <stdio.h>
@@ -27,40 +27,71 @@ static int is_number(const char *text, uint64_t *number) {
     return *text != '\0';
 }
 
-/* The next four take arguments and answer how many; 0, with the fault told, where the command does not take them. */
-static int take_hex(const command *called, request *asked) {
-    if (!called->takes_hex) {
-        wrong_usage("%s does not take -x", called->name);
-        return 0;
+/* An option: what stands behind it is a number from `least` to `most`, or the name of a file, or nothing where it has a place for
+   neither. */
+typedef struct {
+    const char *name;
+    unsigned member;
+    uint64_t *number, least, most;
+    const char **file;
+} option;
+
+/* The option of this name, with the places of a request that it fills. Answers 0 where there is none. */
+static int find_option(const char *name, request *asked, option *found) {
+    const option options[] = {
+        {"-x", HEX, NULL, 0, 0, NULL},
+        {"--parts", PARTS, &asked->part, 1, UINT64_MAX, NULL},
+        {"--seed", SEED, &asked->seed, 0, UINT64_MAX, NULL},
+        {"--type", TYPE, &asked->type, 0, UINT8_MAX, NULL},
+        {"--source", SOURCE, &asked->source, 0, UINT32_MAX, NULL},
+        {"--into", INTO, NULL, 0, 0, &asked->into},
+        {"--at", AT, &asked->at, 0, SIZE_MAX, NULL},
+    };
+    for (size_t n = 0; n < sizeof options / sizeof *options; n++) {
+        if (strcmp(options[n].name, name) == 0) {
+            *found = options[n];
+            return 1;
+        }
     }
-    asked->hex = 1;
-    return 1;
+    return 0;
 }
 
-/* An option and the number behind it. */
-static int take_option(const command *called, int takes, char **arguments, int left, uint64_t *number) {
-    if (!takes) {
-        wrong_usage("%s does not take %s", called->name, arguments[0]);
+/* The next four take arguments and answer how many; 0, with the fault told, where they cannot. This one takes an option and its
+   number. */
+static int take_option_number(const option *named, const char *text) {
+    if (!is_number(text, named->number)) {
+        wrong_usage("%s takes a number, and '%s' is none", named->name, text);
         return 0;
     }
-    if (left < 2) {
-        wrong_usage("a number is missing behind %s", arguments[0]);
+    if (*named->number < named->least) {
+        wrong_usage("%s takes a number from %llu on", named->name, (unsigned long long)named->least);
         return 0;
     }
-    if (!is_number(arguments[1], number)) {
-        wrong_usage("%s takes a number, and '%s' is none", arguments[0], arguments[1]);
+    if (*named->number > named->most) {
+        wrong_usage("%s takes a number up to %llu", named->name, (unsigned long long)named->most);
         return 0;
     }
     return 2;
 }
 
-static int take_parts(const command *called, char **arguments, int left, request *asked) {
-    int taken = take_option(called, called->takes_parts, arguments, left, &asked->part);
-    if (taken != 0 && asked->part == 0) {
-        wrong_usage("--parts takes a number from 1 on");
+static int take_option(const command *called, const option *named, char **arguments, int left, request *asked) {
+    if (!(called->takes & named->member)) {
+        wrong_usage("%s does not take %s", called->name, named->name);
         return 0;
     }
-    return taken;
+    asked->given |= named->member;
+    if (named->number == NULL && named->file == NULL) {
+        return 1;
+    }
+    if (left < 2) {
+        wrong_usage("a %s is missing behind %s", named->number != NULL ? "number" : "file", named->name);
+        return 0;
+    }
+    if (named->number != NULL) {
+        return take_option_number(named, arguments[1]);
+    }
+    *named->file = arguments[1];
+    return 2;
 }
 
 static int take_number(const command *called, const char *argument, request *asked) {
@@ -83,9 +114,8 @@ static int take_number(const command *called, const char *argument, request *ask
 }
 
 static int take_next(const command *called, char **arguments, int left, request *asked) {
-    if (strcmp(arguments[0], "-x") == 0) return take_hex(called, asked);
-    if (strcmp(arguments[0], "--parts") == 0) return take_parts(called, arguments, left, asked);
-    if (strcmp(arguments[0], "--seed") == 0) return take_option(called, called->takes_seed, arguments, left, &asked->seed);
+    option named;
+    if (find_option(arguments[0], asked, &named)) return take_option(called, &named, arguments, left, asked);
     if (strncmp(arguments[0], "--", 2) == 0) {
         wrong_usage("there is no option '%s'", arguments[0]);
         return 0;

@@ -5,7 +5,7 @@
 int run_write(const request *asked) {
     static input datagram;
     static uint8_t image[DECKLEWREN_IMAGE_MOST];
-    int taken = take_datagram(&datagram, asked->hex);
+    int taken = take_datagram(&datagram, asked->given & HEX);
     if (taken != ENDED_WELL) {
         return taken;
     }
@@ -41,6 +41,6 @@ int run_read(const request *asked) {
     if (block.status != DECKLEWREN_DONE) {
         return refuse_reading(block.status, asked, &bits);
     }
-    put_datagram(datagram, block.count, asked->hex);
+    put_datagram(datagram, block.count, asked->given & HEX);
     return end_well("count=%u wrong=%u\n", (unsigned)block.count, (unsigned)block.wrong);
 }

@@ -8,7 +8,7 @@ enum { HEAD = DECKLEWREN_TRAINING_BITS + DECKLEWREN_WORD_BITS };
 int run_write_slot(const request *asked) {
     static input datagram;
     uint8_t burst[DECKLEWREN_BURST_MOST];
-    int taken = take_datagram(&datagram, asked->hex);
+    int taken = take_datagram(&datagram, asked->given & HEX);
     if (taken != ENDED_WELL) {
         return taken;
     }
@@ -81,7 +81,7 @@ int run_read_slot(const request *asked) {
     if (slot.status != DECKLEWREN_DONE) {
         return refuse_slot(slot.status, &bits);
     }
-    put_datagram(datagram, slot.count, asked->hex);
+    put_datagram(datagram, slot.count, asked->given & HEX);
     return end_well("count=%u wrong=%u link=%u word_wrong=%u\n", (unsigned)slot.count, (unsigned)slot.wrong, (unsigned)slot.link,
                     (unsigned)slot.word_wrong);
 }

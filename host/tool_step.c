@@ -6,9 +6,6 @@
 /* The byte that a step passes over (document 02, K1). */
 enum { FILL = 81 };
 
-/* The least length of a message. */
-enum { LEAST = 7 };
-
 static void put_message(decklewren_step step) {
     printf("%llu %llu\n", (unsigned long long)step.start, (unsigned long long)step.length);
 }
@@ -29,7 +26,8 @@ static int refuse_message(decklewren_step step, const input *datagram) {
     }
     unsigned declared = datagram->bytes[start + 1] * 256u + datagram->bytes[start + 2];
     if (step.status == DECKLEWREN_SMALL_LENGTH) {
-        return refuse_at(step.status, start, "the message declares %u bytes, at least %u are needed", declared, LEAST);
+        return refuse_at(step.status, start, "the message declares %u bytes, at least %u are needed", declared,
+                         DECKLEWREN_MESSAGE_HEAD);
     }
     return refuse_at(step.status, start, "the message declares %u bytes, %llu %s missing", declared,
                      (unsigned long long)step.missing, step.missing == 1 ? "is" : "are");
@@ -89,7 +87,7 @@ static int run_walk(const input *datagram) {
 
 int run_step(const request *asked) {
     static input datagram;
-    int taken = take_datagram(&datagram, asked->hex);
+    int taken = take_datagram(&datagram, asked->given & HEX);
     if (taken != ENDED_WELL) {
         return taken;
     }

@@ -13,9 +13,9 @@
    WHAT A CALLER KEEPS TO. A pointer is valid for the length that follows it, for writing where it is not const; where the length
    is 0 it may be NULL. The two pointers to a state, count and bits, are never NULL: both are valid for the sizes in decklewren_parts,
    and count is aligned as a uint32_t is. The buffers and the state of one call do not overlap, and nobody changes them while the call
-   runs. The stack has room: DECKLEWREN_STACK_... below says how much. Nothing else is asked: any number may stand for a link or a
-   position and in a state's count, any bytes in the buffers and in a state's bits, and a buffer may begin at any address, since bytes
-   need no alignment.
+   runs. The stack has room: DECKLEWREN_STACK_... below says how much. Nothing else is asked: any number may stand for a link, a
+   position, a start, a type or a source and in a state's count, any bytes in the buffers and in a state's bits, and a buffer may
+   begin at any address, since bytes need no alignment.
 
    THREADS AND INTERRUPTS. The archive has no writable data, no heap and no locks: calls may run side by side in threads and inside
    one another, as where a signal or interrupt handler calls while a call runs. But a state is for one call at a time: where an
@@ -26,8 +26,8 @@
 
    WHAT IS PROVED, of the Rattle sources of these calls, for all input: a call returns, touches nothing but the buffers and the state
    that it is lent, and answers and writes what its contract says. The contracts leave one answer and one content of the buffers: what
-   these held before reaches neither the answer nor the bytes that it counts, and the bytes behind those stay as they were. Each
-   refusal is answered exactly when it is the first of its call's list that applies. "Proved" at a call below says what else.
+   these held before reaches neither the answer nor the bytes that it counts, and the bytes before and behind those stay as they were.
+   Each refusal is answered exactly when it is the first of its call's list that applies. "Proved" at a call below says what else.
 
    WHAT IS NOT PROVED: this header, the compiler's back end and the C side. They are tested: every name, size and function below
    is held to the archive, and every call to a second implementation that shares no code with the library. */
@@ -45,16 +45,16 @@ extern "C" {
 /* The version, here and nowhere else. MAJOR rises where a program must change or be compiled again (a call, a struct or a name that
    was there has changed or is gone), MINOR where something is new or a call answers otherwise, PATCH with every other change. */
 #define DECKLEWREN_VERSION_MAJOR 1
-#define DECKLEWREN_VERSION_MINOR 1
-#define DECKLEWREN_VERSION_PATCH 1
+#define DECKLEWREN_VERSION_MINOR 2
+#define DECKLEWREN_VERSION_PATCH 0
 
-/* The same as text: "1.1.1" is a literal, made of the three numbers. */
+/* The same as text: "1.2.0" is a literal, made of the three numbers. */
 #define DECKLEWREN_TEXT_OF(major, minor, patch) #major "." #minor "." #patch
 #define DECKLEWREN_TEXT(major, minor, patch) DECKLEWREN_TEXT_OF(major, minor, patch)
 #define DECKLEWREN_VERSION DECKLEWREN_TEXT(DECKLEWREN_VERSION_MAJOR, DECKLEWREN_VERSION_MINOR, DECKLEWREN_VERSION_PATCH)
 
-/* The numbers a caller gets back as status (document 01, the table of that name; 10 by document 02, K1, and 9, 11 and 12 by K3):
-   X(name, number, what it says). */
+/* The numbers a caller gets back as status (document 01, the table of that name; of document 02, 10 is K1's, 9, 11 and 12 are K3's,
+   and 13, 14 and the start of 8 are K6's): X(name, number, what it says). */
 #define DECKLEWREN_STATUSES(X)                                                                                                       \
     X(DECKLEWREN_DONE, 0, "done")                                                                                                    \
     X(DECKLEWREN_NOT_OFFERED, 1, "link not offered; number above 63 for a link word; slot burst not of link 5, 6, 7")                \
@@ -64,11 +64,13 @@ extern "C" {
     X(DECKLEWREN_NO_TRAINING, 5, "training differs")                                                                                 \
     X(DECKLEWREN_NO_WORD, 6, "no code word within seven")                                                                            \
     X(DECKLEWREN_NO_BLOCK, 7, "no valid block's image within one")                                                                   \
-    X(DECKLEWREN_PAST_END, 8, "position past the end")                                                                               \
+    X(DECKLEWREN_PAST_END, 8, "position or start past the end")                                                                      \
     X(DECKLEWREN_SMALL_LENGTH, 9, "length below 7")                                                                                  \
     X(DECKLEWREN_BROKEN_FILL, 10, "a byte other than 0 after a 0")                                                                   \
     X(DECKLEWREN_FEW_LEFT, 11, "fewer than 3 bytes left")                                                                            \
-    X(DECKLEWREN_MESSAGE_PAST_END, 12, "message past the end")
+    X(DECKLEWREN_MESSAGE_PAST_END, 12, "message past the end")                                                                       \
+    X(DECKLEWREN_NO_TYPE, 13, "type 0 or 81")                                                                                        \
+    X(DECKLEWREN_LONG_BODY, 14, "more than 65528 bytes after the source")
 
 /* The links that are offered (document 01, "The links", and document 02, K4): X(link, bytes of a datagram that it holds, N bits of
    its image). Images differ in two things from M.2092-1, because document 01 says so and outranks it: link 20 has 32 check bits in
@@ -119,17 +121,19 @@ enum {
     DECKLEWREN_WORD_BITS = 32,                   /* bits of a link word */
     DECKLEWREN_HELD_MOST = DECKLEWREN_HELD_19,   /* a buffer this long takes every link's datagram, */
     DECKLEWREN_IMAGE_MOST = DECKLEWREN_IMAGE_33, /* every link's image, */
-    DECKLEWREN_BURST_MOST = DECKLEWREN_BURST_7   /* every slot burst */
+    DECKLEWREN_BURST_MOST = DECKLEWREN_BURST_7,  /* every slot burst */
+    DECKLEWREN_MESSAGE_HEAD = 7,                 /* bytes of a message before its body: type, length, source */
+    DECKLEWREN_BODY_MOST = 65528                 /* bytes of the longest body: head and body then make 65535, the largest length */
 };
 #undef DECKLEWREN_NAME_STATUS
 #undef DECKLEWREN_NAME_SIZES
 #undef DECKLEWREN_NAME_BURST
 
 /* Bytes of stack that a call takes below its caller's, on any link and any input: measured on the archive, return address and red
-   zone counted, and rounded up. Those of blocks and slot bursts leave 500 bytes for memcpy and memset; the other calls use neither.
-   The figures hold for programs that are linked statically or with -z now, or that have called both functions before. Where a
-   dynamic linker binds memcpy or memset at its first call, the linker's own work comes on top and goes past the figures: 27880 bytes
-   were measured for a first decklewren_read_block. */
+   zone counted, and rounded up. Those of blocks, of slot bursts and of the zero fill leave 500 bytes for memcpy and memset; the
+   other calls use neither. The figures hold for programs that are linked statically or with -z now, or that have called both
+   functions before. Where a dynamic linker binds memcpy or memset at its first call, the linker's own work comes on top and goes past
+   the figures: 27880 bytes were measured for a first decklewren_read_block. */
 enum {
     DECKLEWREN_STACK_WRITE_WORD = 128,
     DECKLEWREN_STACK_READ_WORD = 128,
@@ -139,10 +143,12 @@ enum {
     DECKLEWREN_STACK_READ_SLOT = 26624,
     DECKLEWREN_STACK_TAKE_PART = 128,
     DECKLEWREN_STACK_READ_PARTS = 26624,
-    DECKLEWREN_STACK_STEP_MESSAGE = 1536
+    DECKLEWREN_STACK_STEP_MESSAGE = 1536,
+    DECKLEWREN_STACK_WRITE_MESSAGE = 128,
+    DECKLEWREN_STACK_ZERO_FILL = 640
 };
 
-/* A status in words, for a log or a screen; there is no number above 12. */
+/* A status in words, for a log or a screen; there is no number above 14. */
 static inline const char *decklewren_status_text(uint32_t status) {
     switch (status) {
 #define DECKLEWREN_CASE(name, number, text) case name: return text;
@@ -182,7 +188,7 @@ static inline size_t decklewren_burst(uint32_t link) {
     }
 }
 
-/* What a writing call answers: count is the number of bytes laid at the buffer's start. */
+/* What writing a link word, a block or a slot burst answers: count is the number of bytes laid at the buffer's start. */
 typedef struct {
     uint32_t status;
     uint32_t count;
@@ -229,6 +235,13 @@ typedef struct {
     uint64_t length;
     uint64_t missing;
 } decklewren_step;
+
+/* What laying a message or zeros into a datagram answers: count is the number of bytes laid from start on, so that the next message
+   goes to start + count. It has 64 bits, for there may be more zeros than 32 bits count. */
+typedef struct {
+    uint32_t status;
+    uint64_t count;
+} decklewren_laid;
 
 /* Writes the link word of a number (M.2092-1, Annex 2, 1.2.3.4).
    Returns:  status and count 32
@@ -334,6 +347,27 @@ static inline decklewren_slot decklewren_parts_read(decklewren_parts *parts, uin
              lie only bytes 81, and where it is finished, behind the last one lie bytes 81 and then zeros. Where it comes to a
              message of which 11, 9 or 12 is true, and only there, it ends with that answer */
 decklewren_step decklewren_step_message(const uint8_t *datagram, size_t datagram_len, size_t position);
+
+/* Lays a message into a datagram, over what stands there (document 02, K6): type, total length (two bytes, high byte first), source
+   (four bytes, high byte first), body. To fill a datagram, lay the first message at 0 and each next one at start + count of the last,
+   and end with decklewren_zero_fill.
+   Returns:  status and count 7 + body_len
+   In:       datagram, the buffer, and any start; type, any but 0 and 81; source; body, what follows the source, at most 65528 bytes
+   Out:      count bytes from start on; bytes before and behind stay
+   Refusals: 8 start past datagram_len, 13 type 0 or 81, 14 body_len above 65528, 3 fewer than 7 + body_len bytes from start on
+   Proved:   these bytes are the message: a step from start answers start and count, and type, source and body are at their places.
+             Every list of messages that fits can be laid in this way; the datagram is then their bytes and zeros, and a walk finds
+             exactly these messages, in their order, and is finished */
+decklewren_laid decklewren_write_message(uint8_t *datagram, size_t datagram_len, size_t start, uint8_t type, uint32_t source,
+                                         const uint8_t *body, size_t body_len);
+
+/* Lays zeros into a datagram from a start to the end, over what stands there (document 02, K6).
+   Returns:  status and count datagram_len - start, 0 where start is the end
+   In:       datagram, the buffer, and any start
+   Out:      zeros from start on; bytes before stay
+   Refusals: 8 start past datagram_len
+   Proved:   the bytes from start on are zeros; with decklewren_write_message as it says there */
+decklewren_laid decklewren_zero_fill(uint8_t *datagram, size_t datagram_len, size_t start);
 
 #ifdef __cplusplus
 }

@@ -8,8 +8,6 @@ use native.Mathlib.Nat.{zero-add}
 use lib.ListN.{length, take}
 use borrow.Author.Tests.{le-leb, lt-leb}
 use Rattle.lists.specs.Over.{over}
-use Rattle.lists.proofs.Over.{over-zero}
-use Rattle.answers.specs.Outcome.{laid}
 use Rattle.bits.specs.Datagram.{allBytes, asBytes}
 use Rattle.datagrams.specs.working.Packed.{packedOver}
 use Rattle.bits.specs.Row.{differences}
@@ -30,7 +28,7 @@ module _ (limit number : ℕ) (row : Row) (came u : List Bool) where
   near-answered h = rw (le-leb (differences (imageOf row u) came) limit h)
 
 pub datagram-laid : (row : Row) (u : List Bool) (old new : List ℕ) {held : ℕ} → held ≡ bytesHeld row → allBytes old ≡ true → held * 8 ≤ length u → held ≤ length old
-    → new ≡ packedOver 0 (take (held * 8) u) old → new ≡ laid (datagramOf row u) old
+    → new ≡ packedOver 0 (take (held * 8) u) old → new ≡ over 0 (datagramOf row u) old
 unfolding datagramOf
 datagram-laid row u old new {held} e bytes long room p =
-    p ∙ packed-bytes 0 held u old bytes long (rw zero-add room) ∙ ap (λ (m : ℕ). over 0 (asBytes m u) old) e ∙ over-zero (asBytes (bytesHeld row) u) old
+    p ∙ packed-bytes 0 held u old bytes long (rw zero-add room) ∙ ap (λ (m : ℕ). over 0 (asBytes m u) old) e

@@ -32,7 +32,7 @@ noWord = 6
 abbrev pub noBlock : ℕ
 noBlock = 7
 
--- position past the end
+-- position or start past the end
 abbrev pub pastEnd : ℕ
 pastEnd = 8
 
@@ -51,3 +51,11 @@ fewLeft = 11
 -- a message: past the end (document 02, K3)
 abbrev pub messagePastEnd : ℕ
 messagePastEnd = 12
+
+-- a type 0 or 81 for a message (document 02, K6)
+abbrev pub noType : ℕ
+noType = 13
+
+-- more than 65,528 bytes after the source (document 02, K6)
+abbrev pub longBody : ℕ
+longBody = 14

@@ -8,7 +8,7 @@ use native.Mathlib.Omega.{arith}
 use lib.Dec.{ltb, ltb→lt, lit<, lit≤}
 use lib.ListN.{length, replicate, length-map, length-append}
 use lib.Seq.{take-all, take-at}
-use Rattle.answers.specs.Numbers.{done, notOffered, wrongLength, noWord}
+use Rattle.answers.specs.Numbers.{done, notOffered, wrongLength, noRoom, noWord, pastEnd, noType, longBody}
 use Rattle.answers.specs.Outcome.{Outcome, refusal}
 use Rattle.answers.proofs.Task.{write-unoffered, write-long}
 use Rattle.lists.specs.Every.{every}
@@ -28,6 +28,9 @@ use Rattle.links.specs.Rows.{rows, placeIn, offered, rowOf}
 use Rattle.links.specs.Sizes.{openBits, bytesHeld, passedOn, tailBits, imageLength}
 use Rattle.links.proofs.Good.{good}
 use Rattle.messages.specs.Step.{zerosAt, messageAt, stepAt, stepMessage}
+use Rattle.message_writer.specs.Message.{highByteFirst, messageOf}
+use Rattle.message_writer.specs.Calls.{laying, writeMessage, zeroFill, refusal as laid-refused}
+use Rattle.message_writer.proofs.Ways.{write-long as write-long-body}
 use Rattle.slots.specs.Burst.{doubled, symbols, training, headLength, headPart, blockPart, isSlotLink, headOf, burstOf}
 use Rattle.slots.specs.declared.Slot.{Slot}
 use Rattle.slots.specs.Near.{Near}
@@ -187,6 +190,29 @@ module _ (rest : List Bool) where
   no-slot-read : (room : ℕ) → readSlot came-4 room ≡ slot-refused notOffered
   no-slot-read room = read-refused came-4 room (rw head-4 (λ z. omega (arith, z))) ∙ rw head-4
 
+-- ---- K6
+laid-in : (writeMessage 3 93 0x01020304 (111 ∷ 107 ∷ []) 20 ≡ laying (93 ∷ 0 ∷ 9 ∷ 1 ∷ 2 ∷ 3 ∷ 4 ∷ 111 ∷ 107 ∷ [])) × (writeMessage 0 74 1 [] 7 ≡ laying (74 ∷ 0 ∷ 7 ∷ 0 ∷ 0 ∷ 0 ∷ 1 ∷ []))
+unfolding writeMessage messageOf highByteFirst
+laid-in = (refl, refl)
+
+starts : (writeMessage 9 93 1 [] 8 ≡ laid-refused pastEnd) × (writeMessage 8 93 1 [] 8 ≡ laid-refused noRoom) × (writeMessage 8 0 1 [] 8 ≡ laid-refused noType) × (writeMessage 8 81 1 [] 8 ≡ laid-refused noType)
+unfolding writeMessage
+starts = (refl, refl, refl, refl)
+
+longest-message : (body : List ℕ) → length body ≡ 65528
+    → (writeMessage 2 93 1 body 65537 ≡ laying (93 ∷ 255 ∷ 255 ∷ 0 ∷ 0 ∷ 0 ∷ 1 ∷ body)) × (writeMessage 2 93 1 body 65536 ≡ laid-refused noRoom)
+unfolding writeMessage messageOf highByteFirst
+longest-message body e = (rw e, rw e)
+
+too-long-first : (body : List ℕ) → length body ≡ 65529 → ((room : ℕ) → writeMessage 0 93 1 body room ≡ laid-refused longBody)
+    × (writeMessage 0 0 1 body 0 ≡ laid-refused noType) × (writeMessage 1 0 1 body 0 ≡ laid-refused pastEnd)
+unfolding writeMessage
+too-long-first body e = (λ room. write-long-body 0 93 1 body room (omega arith) refl (omega (arith, e)), refl, refl)
+
+zero-filled : (zeroFill 5 8 ≡ laying (0 ∷ 0 ∷ 0 ∷ [])) × (zeroFill 8 8 ≡ laying []) × (zeroFill 9 8 ≡ laid-refused pastEnd)
+unfolding zeroFill
+zero-filled = (refl, refl, refl)
+
 pub cases : Cases
 unfolding generator withRows wordOf every zerosAt messageAt stepAt stepMessage
-cases = record { P1 = refl; P2 = refl; P3 = refl; P4 = seven-wrong; P5 = eight-wrong; P6 = nine-wrong; P7 = (p7-y0, p7-y1); P8 = p8; P9 = p9; P10 = (held-by-12, too-long); P11 = (refl, refl, refl); P12 = (refl, refl, refl); K1-spoilt = (refl, refl, refl); K1-ends = (refl, refl, refl, refl); K1-passed = (refl, refl, refl); K2-empty = empty; K2-counts = counts; K2-raw = raw; K2-longer = λ datagram fits x more. (kept datagram fits x more, longer datagram fits, read-7 datagram fits); K3-order = (refl, refl, refl); K3-missing = (refl, refl); K4-lengths = lengths-4; K4-held = held-by-4; K4-blocks-only = (offered-4, no-slot-written, no-slot-read); short-7 = λ rest room size. other-7 rest room (λ e. omega (arith, size, e)); burst-lengths = rw (images .0, images .1, images .2) }
+cases = record { P1 = refl; P2 = refl; P3 = refl; P4 = seven-wrong; P5 = eight-wrong; P6 = nine-wrong; P7 = (p7-y0, p7-y1); P8 = p8; P9 = p9; P10 = (held-by-12, too-long); P11 = (refl, refl, refl); P12 = (refl, refl, refl); K1-spoilt = (refl, refl, refl); K1-ends = (refl, refl, refl, refl); K1-passed = (refl, refl, refl); K2-empty = empty; K2-counts = counts; K2-raw = raw; K2-longer = λ datagram fits x more. (kept datagram fits x more, longer datagram fits, read-7 datagram fits); K3-order = (refl, refl, refl); K3-missing = (refl, refl); K4-lengths = lengths-4; K4-held = held-by-4; K4-blocks-only = (offered-4, no-slot-written, no-slot-read); K6-laid = laid-in; K6-start = starts; K6-longest = longest-message; K6-order = too-long-first; K6-fill = zero-filled; short-7 = λ rest room size. other-7 rest room (λ e. omega (arith, size, e)); burst-lengths = rw (images .0, images .1, images .2) }

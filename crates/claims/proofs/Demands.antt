@@ -3,6 +3,7 @@
 use mathlib.Core.Path.{refl, sym, ap, _∙_}
 use mathlib.Core.Bool.{Bool}
 use mathlib.Core.List.{List, _∷_}
+use native.Mathlib.Nat.{zero-add}
 use native.Mathlib.Omega.{arith}
 use lib.ListN.{length}
 use Rattle.answers.proofs.Determined.{one-content}
@@ -31,12 +32,16 @@ use Rattle.messages.proofs.Walk.{walk-ends, walks-one}
 use Rattle.claims.specs.Demands.{Demand1, Demand2, Demand3}
 use Rattle.claims.proofs.Blocks as blocks
 use Rattle.claims.proofs.Endings.{word-ends, task-ends, wrote-none, behind, determined}
+use Rattle.claims.proofs.Laying as laying
+use Rattle.claims.proofs.Laying.{message-ends, fill-ends, refused-none, around}
 use Rattle.claims.proofs.Lines.{one-number}
 use Rattle.claims.proofs.Messages as messages
 use Rattle.claims.proofs.Numbers.{writes-word, reads-word, writes-task, reads-block, reads-slot, steps}
 use Rattle.claims.proofs.Parts as parts
+use Rattle.claims.proofs.Several as several
 use Rattle.claims.proofs.Slots as slots
 use Rattle.claims.proofs.Words as words
+use Rattle.claims.proofs.Writing as writing
 
 pub demand1 : Demand1
 demand1 = record {
@@ -49,6 +54,8 @@ demand1 = record {
   read-slot-number = λ burst old new answer wr. reads-slot burst old new answer wr (rs.reading-goes burst (length old));
   read-parts-number = λ before after old new answer asked. reads-slot (heard before) old new answer (asked .reads) (rs.reading-goes (heard before) (length old));
   step-number = λ datagram position answer e. steps datagram position answer e (step-goes datagram position);
+  write-message-number = writing.message-number;
+  zero-fill-number = writing.fill-number;
   write-word-refused = λ n old new answer wr. wrote-none (word-ends n (length old)) wr;
   read-word-refused = words.refused;
   write-block-refused = λ link datagram old new answer wr. wrote-none (task-ends (blockTask link datagram) (length old)) wr;
@@ -57,12 +64,16 @@ demand1 = record {
   read-slot-refused = slots.refused;
   read-parts-refused = λ before after old new answer asked. slots.refused (heard before) old new answer (asked .reads);
   step-refused = messages.refused;
+  write-message-refused = λ start type source body old new answer wr. refused-none wr (message-ends start type source body (length old));
+  zero-fill-refused = λ start old new answer wr. refused-none wr (fill-ends start (length old));
   write-word-behind = λ n old new answer wr. behind (word-ends n (length old)) wr;
   write-block-behind = λ link datagram old new answer wr. behind (task-ends (blockTask link datagram) (length old)) wr;
   read-block-behind = λ link bits old new answer wr. behind (blocks.ends link bits (length old)) wr;
   write-slot-behind = λ link datagram old new answer wr. behind (task-ends (slotTask link datagram) (length old)) wr;
   read-slot-behind = λ burst old new answer wr. behind (slots.ends burst (length old)) wr;
   read-parts-behind = λ before after old new answer asked. behind (slots.ends (heard before) (length old)) (asked .reads);
+  write-message-around = λ start type source body old new answer wr. around wr (message-ends start type source body (length old));
+  zero-fill-around = λ start old new answer wr. around wr (fill-ends start (length old));
   write-word-determined = λ n old old' new new' answer answer' l wr wr'. determined (word-ends n (length old)) wr (rw (← l) at wr');
   read-word-determined = λ row answer answer' e f. e ∙ sym f;
   write-block-determined = λ link datagram old old' new new' answer answer' l wr wr'. determined (task-ends (blockTask link datagram) (length old)) wr (rw (← l) at wr');
@@ -75,12 +86,17 @@ demand1 = record {
       (same .0, same .1, asked .leaves ∙ sym (asked' .leaves));
   step-determined = λ datagram position answer answer' e f. e ∙ sym f;
   text-determined = λ input answer answer' e f. e ∙ sym f;
+  write-message-determined = λ start type source body old old' new new' answer answer' l wr wr'.
+      laying.determined l (message-ends start type source body (length old)) wr (rw (← l) at wr');
+  zero-fill-determined = λ start old old' new new' answer answer' l wr wr'. laying.determined l (fill-ends start (length old)) wr (rw (← l) at wr');
   write-word-content = λ n old new new' answer answer' wr wr'. one-content wr wr';
   write-block-content = λ link datagram old new new' answer answer' wr wr'. one-content wr wr';
   read-block-content = λ link bits old new new' answer answer' wr wr'. one-content wr wr';
   write-slot-content = λ link datagram old new new' answer answer' wr wr'. one-content wr wr';
   read-slot-content = λ burst old new new' answer answer' wr wr'. one-content wr wr';
   read-parts-content = λ before after after' old new new' answer answer' asked asked'. one-content (asked .reads) (asked' .reads);
+  write-message-content = λ start type source body old new new' answer answer' wr wr'. one-content wr wr';
+  zero-fill-content = λ start old new new' answer answer' wr wr'. one-content wr wr';
 }
 
 pub demand2 : Demand2
@@ -126,6 +142,14 @@ demand2 = record {
   walk-fill = λ datagram found w. walks-fill datagram (omega arith) w;
   walk-lie = messages.walk-lie;
   walk-bytes = messages.walk-bytes;
+  messages-written = λ start type source body old new answer z f s room wr. writing.written start type source body old new answer wr z f s room;
+  zeros-written = λ start old new answer inside wr. writing.filled-in start old new answer wr inside;
+  message-stepped = writing.steps-back;
+  message-places = writing.places;
+  list-laid = λ messages ok old room. rw zero-add at (several.list-laid messages ok 0 old (rw zero-add room));
+  list-bytes = several.list-bytes;
+  list-stepped = several.list-stepped;
+  list-places = several.list-places;
 }
 
 pub demand3 : Demand3

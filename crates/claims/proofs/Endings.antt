@@ -6,6 +6,7 @@ use mathlib.Core.List.{List, []}
 use Prim.Native.Nat.{ℕ}
 use native.Mathlib.Omega.{arith}
 use lib.ListN.{length, take, drop}
+use Rattle.lists.proofs.Over.{over-nil}
 use Rattle.answers.specs.declared.Written.{Written}
 use Rattle.answers.specs.Numbers.{done, notOffered, wrongLength, noRoom}
 use Rattle.answers.specs.Written.{refused}
@@ -60,7 +61,7 @@ module _ {Answer Way : Type 0} {kind : Kind Answer Way} {outcome : Outcome Answe
     refused-with z = goes ends
       where
         goes : Ends kind outcome → (number : ℕ) × (answer ≡ kind .refused number) × (new ≡ old)
-        goes (refuses number h e) = (number, said wr e, held wr e)
+        goes (refuses number h e) = (number, said wr e, held wr e ∙ over-nil 0 old)
         goes (answers way e) = absurd (z (told wr (kind .status) e ∙ kind .is-done way))
 
     pub given-in : kind .status answer ≡ done → (way : Way) × (outcome ≡ kind .given way)

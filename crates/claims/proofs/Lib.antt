@@ -2,10 +2,13 @@ pub mod Blocks
 pub mod Cases
 pub mod Demands
 pub mod Endings
+pub mod Laying
 pub mod Lines
 pub mod Messages
 pub mod Numbers
 pub mod Parts
+pub mod Several
 pub mod Slots
 pub mod Tasks
 pub mod Words
+pub mod Writing

@@ -1,13 +1,14 @@
 -- The public calls as the relations and equations that their contracts name (those by parts are TookPart and ReadParts of parts/specs), and
 -- for each call that answers a number the lines of document 01's table of numbers in the order in which it tests them.
 use mathlib.Core.Path.{_≡_}
+use mathlib.Core.Logic.{_⊎_}
 use mathlib.Core.Bool.{Bool, false}
-use mathlib.Core.List.{List, map}
-use Prim.Native.Nat.{ℕ, _<_}
+use mathlib.Core.List.{List, [], _∷_, map}
+use Prim.Native.Nat.{ℕ, _+_, _<_}
 use lib.ListN.{length, take, drop}
 use Rattle.answers.specs.declared.Written.{Written}
-use Rattle.answers.specs.Numbers.{done, notOffered, wrongLength, noRoom, noBit, noTraining, noWord, noBlock, pastEnd, smallLength, brokenFill, fewLeft, messagePastEnd}
-use Rattle.answers.specs.Outcome.{Wrote}
+use Rattle.answers.specs.Numbers.{done, notOffered, wrongLength, noRoom, noBit, noTraining, noWord, noBlock, pastEnd, smallLength, brokenFill, fewLeft, messagePastEnd, noType, longBody}
+use Rattle.answers.specs.Outcome.{WroteAt, Wrote}
 use Rattle.answers.specs.Task.{Task}
 use Rattle.bits.specs.Bits.{isOne, allBits}
 use Rattle.bits.specs.Row.{differences}
@@ -28,6 +29,10 @@ use Rattle.parts.specs.Asking.{ReadParts}
 use Rattle.messages.specs.declared.Step.{Step}
 use Rattle.messages.specs.Places.{Behind, Spoilt, Begins, FewLeft, SmallLength, MessagePastEnd}
 use Rattle.messages.specs.Step.{stepMessage}
+use Rattle.message_writer.specs.declared.Laid.{Laid as LaidBytes}
+use Rattle.message_writer.specs.Message.{totalOf}
+use Rattle.message_writer.specs.Calls.{writeMessage, zeroFill}
+use Rattle.message_writer.specs.Several.{Message}
 use Rattle.printer_text.specs.declared.Text.{Text}
 use Rattle.printer_text.specs.Lines.{textOf}
 use Rattle.claims.specs.Lines.{Lines, none, line}
@@ -62,6 +67,20 @@ pub record CameInParts (burst old new : List ℕ) (answer : Slot) : Type 0 where
 
 abbrev pub Stepped : List ℕ → ℕ → Step → Type 0
 Stepped datagram position answer = answer ≡ stepMessage datagram position
+
+-- a message that is laid from a start on, and zero fill
+abbrev pub WroteMessage : ℕ → ℕ → ℕ → List ℕ → List ℕ → List ℕ → LaidBytes → Type 0
+WroteMessage start type source body old new answer = WroteAt start (writeMessage start type source body (length old)) old new answer
+
+abbrev pub ZeroFilled : ℕ → List ℕ → List ℕ → LaidBytes → Type 0
+ZeroFilled start old new answer = WroteAt start (zeroFill start (length old)) old new answer
+
+-- messages are laid, the first at a place, each next at the end of the last, and every call is done; with the place where the last one ends
+pub data LaidAll : ℕ → List Message → List ℕ → List ℕ → ℕ → Type 0 where
+  laid-none : {place : ℕ} {datagram : List ℕ} → LaidAll place [] datagram datagram place
+  laid-next : {place end : ℕ} {m : Message} {messages : List Message} {old mid new : List ℕ} {answer : LaidBytes}
+      → WroteMessage place (m .type) (m .source) (m .body) old mid answer → answer .status ≡ done → LaidAll (place + answer .count) messages mid new end
+      → LaidAll place (m ∷ messages) old new end
 
 -- what the link word printer prints for the bytes that came
 abbrev pub Printed : List ℕ → Text → Type 0
@@ -154,6 +173,19 @@ stepLines datagram position =
     (line messagePastEnd (OfMessage datagram position MessagePastEnd)
     (line brokenFill (Behind datagram position (Spoilt datagram))
     none))))
+
+-- start past the buffer's end; type 0 or 81; more than 65,528 bytes after the source; no room in the buffer
+abbrev pub writeMessageLines : ℕ → ℕ → List ℕ → ℕ → Lines
+writeMessageLines start type body room =
+    line pastEnd (room < start)
+    (line noType ((type ≡ 0) ⊎ (type ≡ 81))
+    (line longBody (65528 < length body)
+    (line noRoom (room < start + totalOf body)
+    none)))
+
+-- start past the buffer's end
+abbrev pub zeroFillLines : ℕ → ℕ → Lines
+zeroFillLines start room = line pastEnd (room < start) none
 
 -- ---- what readers answer
 -- a datagram, laid at the buffer's start, so many bytes of it; the bytes behind stay

@@ -4,7 +4,7 @@ use mathlib.Core.Bool.{Bool, true, false, not}
 use mathlib.Core.List.{List, [], _∷_, _++_, map}
 use Prim.Native.Nat.{ℕ, zero, suc, _+_, _*_, _≤_}
 use lib.ListN.{length, take, drop, replicate}
-use Rattle.answers.specs.Numbers.{done, notOffered, wrongLength, noWord, pastEnd, smallLength, brokenFill, fewLeft, messagePastEnd}
+use Rattle.answers.specs.Numbers.{done, notOffered, wrongLength, noRoom, noWord, pastEnd, smallLength, brokenFill, fewLeft, messagePastEnd, noType, longBody}
 use Rattle.answers.specs.Outcome.{refusal}
 use Rattle.bits.specs.Bits.{byte}
 use Rattle.blocks.specs.Calls.{writeBlock}
@@ -12,6 +12,7 @@ use Rattle.links.specs.Patterns.{flags, patternOf, tailOf}
 use Rattle.links.specs.Rows.{offered, rowOf}
 use Rattle.links.specs.Sizes.{openBits, bytesHeld, passedOn, tailBits, imageLength}
 use Rattle.messages.specs.Step.{stepMessage, finished, message, lie, refused as step-refused}
+use Rattle.message_writer.specs.Calls.{laying, writeMessage, zeroFill, refusal as laid-refused}
 use Rattle.parts.specs.State.{stop, state, fresh, taken, heard}
 use Rattle.slots.specs.Burst.{headOf, burstOf, burstLength}
 use Rattle.slots.specs.Calls.{writeSlot, readSlot, refused as slot-refused}
@@ -91,6 +92,18 @@ pub record Cases : Type 0 where
   -- it has blocks, and no slot bursts: these are refused with 1, in writing whatever the datagram is, in reading whatever stands behind its head
   pub K4-blocks-only : (offered 4 ≡ true) × ((datagram : List ℕ) (room : ℕ) → writeSlot 4 datagram room ≡ refusal notOffered)
       × ((rest : List Bool) (room : ℕ) → readSlot (map byte (headOf 4 ++ rest)) room ≡ slot-refused notOffered)
+  -- document 02, K6: a message of two bytes after the source, its length and its source high byte first; the shortest, of 7, in 7 bytes
+  pub K6-laid : (writeMessage 3 93 0x01020304 (111 ∷ 107 ∷ []) 20 ≡ laying (93 ∷ 0 ∷ 9 ∷ 1 ∷ 2 ∷ 3 ∷ 4 ∷ 111 ∷ 107 ∷ [])) × (writeMessage 0 74 1 [] 7 ≡ laying (74 ∷ 0 ∷ 7 ∷ 0 ∷ 0 ∷ 0 ∷ 1 ∷ []))
+  -- a start at the buffer's end is no 8: there is no room; a type 0 or 81 in the same place is 13
+  pub K6-start : (writeMessage 9 93 1 [] 8 ≡ laid-refused pastEnd) × (writeMessage 8 93 1 [] 8 ≡ laid-refused noRoom) × (writeMessage 8 0 1 [] 8 ≡ laid-refused noType) × (writeMessage 8 81 1 [] 8 ≡ laid-refused noType)
+  -- 65,528 bytes after the source make a message of 65,535: it has room from 2 on in 65,537 bytes, and not in 65,536
+  pub K6-longest : (body : List ℕ) → length body ≡ 65528
+      → (writeMessage 2 93 1 body 65537 ≡ laying (93 ∷ 255 ∷ 255 ∷ 0 ∷ 0 ∷ 0 ∷ 1 ∷ body)) × (writeMessage 2 93 1 body 65536 ≡ laid-refused noRoom)
+  -- 65,529 are too many, with room and without; but a start past the end and a type 0 come first
+  pub K6-order : (body : List ℕ) → length body ≡ 65529 → ((room : ℕ) → writeMessage 0 93 1 body room ≡ laid-refused longBody)
+      × (writeMessage 0 0 1 body 0 ≡ laid-refused noType) × (writeMessage 1 0 1 body 0 ≡ laid-refused pastEnd)
+  -- zero fill of the last three bytes, of none, and past the end
+  pub K6-fill : (zeroFill 5 8 ≡ laying (0 ∷ 0 ∷ 0 ∷ [])) × (zeroFill 8 8 ≡ laying []) × (zeroFill 9 8 ≡ laid-refused pastEnd)
   -- a slot burst of 480 bits under link 7's word
   pub short-7 : (rest : List Bool) (room : ℕ) → length rest ≡ 394 → readSlot (map byte (headOf 7 ++ rest)) room ≡ slot-refused wrongLength
   -- the lengths of slot bursts

@@ -4,7 +4,8 @@ use mathlib.Core.Logic.{_↔_}
 use mathlib.Core.Bool.{Bool, true, false}
 use mathlib.Core.List.{List, [], _∷_, _++_, map}
 use Prim.Native.Nat.{ℕ, _+_, _*_, _<_, _≤_, min}
-use lib.ListN.{length, getD, take, drop}
+use lib.ListN.{length, getD, take, drop, replicate}
+use Rattle.lists.specs.Every.{every}
 use Rattle.answers.specs.declared.Written.{Written}
 use Rattle.answers.specs.Numbers.{done, noWord, noBlock, brokenFill, messagePastEnd}
 use Rattle.bits.specs.Bits.{isOne, byte}
@@ -34,9 +35,12 @@ use Rattle.messages.specs.Places.{byteAt, PassedOver, Behind, NoneLeft, Spoilt,
 use Rattle.messages.specs.Step.{finished, message, lie, isLie, refused as stepRefused}
 use Rattle.messages.specs.Tiling.{Tiles, Leads, Tiled, bytesOf}
 use Rattle.messages.specs.Walk.{Walks, walk}
+use Rattle.message_writer.specs.declared.Laid.{Laid as LaidBytes}
+use Rattle.message_writer.specs.Message.{totalOf, messageOf, sourceAt}
+use Rattle.message_writer.specs.Several.{Message, isMessage, bytesOfAll, stepsOf}
 use Rattle.printer_text.specs.declared.Text.{Text}
 use Rattle.claims.specs.Lines.{Lines, Given}
-use Rattle.claims.specs.Calls.{WroteWord, ReadWord, WroteBlock, ReadBlock, WroteSlot, ReadSlot, CameInParts, Stepped, Printed, writeWordLines, readWordLines, writeBlockLines, readBlockLines, writeSlotLines, readSlotLines, readPartsLines, stepLines, BlockAnswer, SlotAnswer}
+use Rattle.claims.specs.Calls.{WroteWord, ReadWord, WroteBlock, ReadBlock, WroteSlot, ReadSlot, CameInParts, Stepped, WroteMessage, ZeroFilled, LaidAll, Printed, writeWordLines, readWordLines, writeBlockLines, readBlockLines, writeSlotLines, readSlotLines, readPartsLines, stepLines, writeMessageLines, zeroFillLines, BlockAnswer, SlotAnswer}
 
 -- "Every call ends and touches nothing but its own buffers, for all input, lying input included." There is no theorem of this: the
 -- checker accepts a function only if it ends for all input and stays inside what it is lent, and no public call has a `requires`.
@@ -52,6 +56,8 @@ pub record Demand1 : Type 1 where
   pub read-slot-number : (burst old new : List ℕ) (answer : Slot) → ReadSlot burst old new answer → Given (readSlotLines burst (length old)) (answer .status)
   pub read-parts-number : (before after : State) (old new : List ℕ) (answer : Slot) → ReadParts before after old new answer → Given (readPartsLines before (length old)) (answer .status)
   pub step-number : (datagram : List ℕ) (position : ℕ) (answer : Step) → Stepped datagram position answer → Given (stepLines datagram position) (answer .status)
+  pub write-message-number : (start type source : ℕ) (body old new : List ℕ) (answer : LaidBytes) → WroteMessage start type source body old new answer → Given (writeMessageLines start type body (length old)) (answer .status)
+  pub zero-fill-number : (start : ℕ) (old new : List ℕ) (answer : LaidBytes) → ZeroFilled start old new answer → Given (zeroFillLines start (length old)) (answer .status)
   -- "and changes no lent byte", with 0 for all other numbers
   pub write-word-refused : (n : ℕ) (old new : List ℕ) (answer : Written) → WroteWord n old new answer → (answer .status ≡ done → ⊥) → (answer .count ≡ 0) × (new ≡ old)
   pub read-word-refused : (row : List ℕ) (answer : Word) → ReadWord row answer → (answer .status ≡ done → ⊥) → (answer .number ≡ 0) × (answer .wrong ≡ 0)
@@ -68,6 +74,8 @@ pub record Demand1 : Type 1 where
   -- the end
   pub step-refused : (datagram : List ℕ) (position : ℕ) (answer : Step) → Stepped datagram position answer → (answer .status ≡ done → ⊥)
       → (isLie (answer .status) ≡ false → answer .start ≡ 0) × (answer .length ≡ 0) × ((answer .status ≡ messagePastEnd → ⊥) → answer .missing ≡ 0)
+  pub write-message-refused : (start type source : ℕ) (body old new : List ℕ) (answer : LaidBytes) → WroteMessage start type source body old new answer → (answer .status ≡ done → ⊥) → (answer .count ≡ 0) × (new ≡ old)
+  pub zero-fill-refused : (start : ℕ) (old new : List ℕ) (answer : LaidBytes) → ZeroFilled start old new answer → (answer .status ≡ done → ⊥) → (answer .count ≡ 0) × (new ≡ old)
   -- bytes behind those that are answered stay
   pub write-word-behind : (n : ℕ) (old new : List ℕ) (answer : Written) → WroteWord n old new answer → drop (answer .count) new ≡ drop (answer .count) old
   pub write-block-behind : (link : ℕ) (datagram old new : List ℕ) (answer : Written) → WroteBlock link datagram old new answer → drop (answer .count) new ≡ drop (answer .count) old
@@ -75,6 +83,10 @@ pub record Demand1 : Type 1 where
   pub write-slot-behind : (link : ℕ) (datagram old new : List ℕ) (answer : Written) → WroteSlot link datagram old new answer → drop (answer .count) new ≡ drop (answer .count) old
   pub read-slot-behind : (burst old new : List ℕ) (answer : Slot) → ReadSlot burst old new answer → drop (answer .count) new ≡ drop (answer .count) old
   pub read-parts-behind : (before after : State) (old new : List ℕ) (answer : Slot) → ReadParts before after old new answer → drop (answer .count) new ≡ drop (answer .count) old
+  -- and so do those before and behind what is laid from a start on (document 02, K6)
+  pub write-message-around : (start type source : ℕ) (body old new : List ℕ) (answer : LaidBytes) → WroteMessage start type source body old new answer
+      → (take start new ≡ take start old) × (drop (start + answer .count) new ≡ drop (start + answer .count) old)
+  pub zero-fill-around : (start : ℕ) (old new : List ℕ) (answer : LaidBytes) → ZeroFilled start old new answer → (take start new ≡ take start old) × (drop (start + answer .count) new ≡ drop (start + answer .count) old)
   -- "Two calls with equal requests and equally long buffers give equal answers and write equal bytes, however the old contents of
   -- the buffers differed."
   pub write-word-determined : (n : ℕ) (old old' new new' : List ℕ) (answer answer' : Written) → length old ≡ length old'
@@ -93,6 +105,11 @@ pub record Demand1 : Type 1 where
       → ReadParts before after old new answer → ReadParts before after' old' new' answer' → (answer ≡ answer') × (take (answer .count) new ≡ take (answer .count) new') × (after ≡ after')
   pub step-determined : (datagram : List ℕ) (position : ℕ) (answer answer' : Step) → Stepped datagram position answer → Stepped datagram position answer' → answer ≡ answer'
   pub text-determined : (input : List ℕ) (answer answer' : Text) → Printed input answer → Printed input answer' → answer ≡ answer'
+  pub write-message-determined : (start type source : ℕ) (body old old' new new' : List ℕ) (answer answer' : LaidBytes) → length old ≡ length old'
+      → WroteMessage start type source body old new answer → WroteMessage start type source body old' new' answer'
+      → (answer ≡ answer') × (take (answer .count) (drop start new) ≡ take (answer .count) (drop start new'))
+  pub zero-fill-determined : (start : ℕ) (old old' new new' : List ℕ) (answer answer' : LaidBytes) → length old ≡ length old'
+      → ZeroFilled start old new answer → ZeroFilled start old' new' answer' → (answer ≡ answer') × (take (answer .count) (drop start new) ≡ take (answer .count) (drop start new'))
   -- and one content of the lent buffer is possible: with equal requests, buffers that held the same before the call hold the same after it
   pub write-word-content : (n : ℕ) (old new new' : List ℕ) (answer answer' : Written) → WroteWord n old new answer → WroteWord n old new' answer' → new ≡ new'
   pub write-block-content : (link : ℕ) (datagram old new new' : List ℕ) (answer answer' : Written)
@@ -103,6 +120,9 @@ pub record Demand1 : Type 1 where
   pub read-slot-content : (burst old new new' : List ℕ) (answer answer' : Slot) → ReadSlot burst old new answer → ReadSlot burst old new' answer' → new ≡ new'
   pub read-parts-content : (before after after' : State) (old new new' : List ℕ) (answer answer' : Slot)
       → ReadParts before after old new answer → ReadParts before after' old new' answer' → new ≡ new'
+  pub write-message-content : (start type source : ℕ) (body old new new' : List ℕ) (answer answer' : LaidBytes)
+      → WroteMessage start type source body old new answer → WroteMessage start type source body old new' answer' → new ≡ new'
+  pub zero-fill-content : (start : ℕ) (old new new' : List ℕ) (answer answer' : LaidBytes) → ZeroFilled start old new answer → ZeroFilled start old new' answer' → new ≡ new'
 
 pub record Demand2 : Type 0 where
   -- "Link words, blocks and slot bursts are those of ITU-R M.2092-1, for the twenty-two links that document 01 lists", and link 4, by
@@ -193,6 +213,28 @@ pub record Demand2 : Type 0 where
       → Walks datagram 0 found (lie number start missing) ↔ (Leads datagram 0 found start × LieAt datagram start number missing)
   -- the messages, the 81s before and between them and what is left behind are the datagram
   pub walk-bytes : (datagram : List ℕ) (found : List Step) (end : ℕ) → Tiles datagram 0 found end → bytesOf datagram 0 found ++ drop end datagram ≡ datagram
+  -- document 02, K6: a message is laid, and zero fill, whenever the request can be met
+  pub messages-written : (start type source : ℕ) (body old new : List ℕ) (answer : LaidBytes) → (type ≡ 0 → ⊥) → (type ≡ 81 → ⊥) → length body ≤ 65528 → start + totalOf body ≤ length old
+      → WroteMessage start type source body old new answer
+      → (answer .status ≡ done) × (answer .count ≡ totalOf body) × (take (answer .count) (drop start new) ≡ messageOf type source body)
+  pub zeros-written : (start : ℕ) (old new : List ℕ) (answer : LaidBytes) → start ≤ length old → ZeroFilled start old new answer
+      → (answer .status ≡ done) × (start + answer .count ≡ length old) × (take (answer .count) (drop start new) ≡ replicate (answer .count) 0)
+  -- what was laid steps back with its start and its length, and type, source and body can be read at their places
+  pub message-stepped : (start type source : ℕ) (body old new : List ℕ) (answer : LaidBytes) → WroteMessage start type source body old new answer → answer .status ≡ done
+      → (step : Step) → Stepped new start step → step ≡ message start (answer .count)
+  pub message-places : (start type source : ℕ) (body old new : List ℕ) (answer : LaidBytes) → WroteMessage start type source body old new answer → answer .status ≡ done → source < 4294967296
+      → (byteAt new start ≡ type) × (sourceAt new start ≡ source) × (take (length body) (drop (start + 7) new) ≡ body)
+  -- "If the first is laid at 0, each next at the end of the last, and the rest zero-filled, stepping finds exactly those messages, in that
+  -- order": every list of messages that fits can be laid so; the datagram is then their bytes and zeros; and stepping finds them, and is finished
+  pub list-laid : (messages : List Message) → every isMessage messages ≡ true → (old : List ℕ) → length (bytesOfAll messages) ≤ length old
+      → (new : List ℕ) × LaidAll 0 messages old new (length (bytesOfAll messages))
+  pub list-bytes : (messages : List Message) (old mid new : List ℕ) (end : ℕ) (answer : LaidBytes) → LaidAll 0 messages old mid end → ZeroFilled end mid new answer
+      → new ≡ bytesOfAll messages ++ replicate (answer .count) 0
+  pub list-stepped : (messages : List Message) (old mid new : List ℕ) (end : ℕ) (answer : LaidBytes) → LaidAll 0 messages old mid end → ZeroFilled end mid new answer
+      → Walks new 0 (stepsOf 0 messages) finished
+  -- and where a step finds one, its bytes stand
+  pub list-places : (messages : List Message) (old mid new : List ℕ) (end : ℕ) (answer : LaidBytes) → LaidAll 0 messages old mid end → ZeroFilled end mid new answer
+      → map (λ step. take (step .length) (drop (step .start) new)) (stepsOf 0 messages) ≡ map (λ m. messageOf (m .type) (m .source) (m .body)) messages
 
 pub record Demand3 : Type 0 where
   -- "One wrong bit in a block or link word is always mended": what was written, with any one place of the block inverted

@@ -1,13 +1,15 @@
 // What C calls (include/decklewren.h): the public calls of the crates below, one thin wrapper each, with the same contract.
 use answers::Written;
 use blocks::Block;
+use message_writer::Laid;
 use messages::Step;
 use slots::Slot;
 use words::Word;
 ghost use mathlib.Core.Path.{_≡_};
 ghost use lib.ListN.{length};
-ghost use Rattle.answers.specs.Outcome.{Wrote};
+ghost use Rattle.answers.specs.Outcome.{WroteAt, Wrote};
 ghost use Rattle.messages.specs.Step.{stepMessage};
+ghost use Rattle.message_writer.specs.Calls.{writeMessage, zeroFill};
 ghost use Rattle.blocks.specs.Calls.{writeBlock, readBlock};
 ghost use Rattle.parts.specs.State.{state};
 ghost use Rattle.parts.specs.Taking.{TookPart};
@@ -34,6 +36,26 @@ pub extern "C" fn decklewren_step_message(datagram: &[u8], position: usize) -> S
     ensures { λ r. ⌜ r ≡ stepMessage (now (datagram .entry)) position ⌝ }
 {
     messages::step_message(datagram, position)
+}
+
+#[no_mangle]
+pub extern "C" fn decklewren_write_message(
+    datagram: &mut [u8],
+    start: usize,
+    kind: u8,
+    source: u32,
+    body: &[u8],
+) -> Laid
+    ensures { λ r. ⌜ WroteAt start (writeMessage start kind source (now (body .entry)) (length (now (datagram .entry)))) (now (datagram .entry)) (now (datagram .exit)) r ⌝ }
+{
+    message_writer::write_message(datagram, start, kind, source, body)
+}
+
+#[no_mangle]
+pub extern "C" fn decklewren_zero_fill(datagram: &mut [u8], start: usize) -> Laid
+    ensures { λ r. ⌜ WroteAt start (zeroFill start (length (now (datagram .entry)))) (now (datagram .entry)) (now (datagram .exit)) r ⌝ }
+{
+    message_writer::zero_fill(datagram, start)
 }
 
 #[no_mangle]

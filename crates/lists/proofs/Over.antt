@@ -3,7 +3,7 @@
 use mathlib.Core.Path.{_≡_, refl, sym, ap, _∙_}
 use mathlib.Core.Bool.{Bool, true}
 use mathlib.Core.List.{List, [], _∷_, _++_, append-nil, append-assoc}
-use Prim.Native.Nat.{ℕ, suc, _+_, _<_}
+use Prim.Native.Nat.{ℕ, suc, _+_, _<_, _≤_}
 use native.Mathlib.Nat.{add-zero, zero-add, add-assoc}
 use native.Mathlib.Numerals.{add-one}
 use native.Mathlib.Omega.{arith}
@@ -47,6 +47,22 @@ module _ {A : Type 0} where
       let f = take-at l (drop n old) n (front at p old h) in
       let b : drop (n + length q) (l ++ drop n old) ≡ drop (n + length q) old = sym (drop-drop (length q) n (l ++ drop n old)) ∙ ap (drop (length q)) (drop-at l (drop n old) n (front at p old h)) ∙ drop-drop (length q) n old in
       rw (f, b, length-append p q, ← add-assoc at (length p) (length q), ← append-assoc (take at old) p q)
+
+  -- where a place is in the list, what stands before it, what is laid from it on, and what stands behind that
+  module _ (at : ℕ) (p old : List A) (h : at ≤ length old) where
+    pub over-before : take at (over at p old) ≡ take at old
+    unfolding over
+    over-before = ap (take at) (append-assoc (take at old) p (drop (at + length p) old)) ∙ take-at (take at old) (p ++ drop (at + length p) old) at (length-take-le at old h)
+
+    pub over-from : drop at (over at p old) ≡ p ++ drop (at + length p) old
+    unfolding over
+    over-from = ap (drop at) (append-assoc (take at old) p (drop (at + length p) old)) ∙ drop-at (take at old) (p ++ drop (at + length p) old) at (length-take-le at old h)
+
+    pub over-piece : take (length p) (drop at (over at p old)) ≡ p
+    over-piece = ap (take (length p)) over-from ∙ take-at p (drop (at + length p) old) (length p) refl
+
+    pub over-behind : drop (at + length p) (over at p old) ≡ drop (at + length p) old
+    over-behind = sym (drop-drop (length p) at (over at p old)) ∙ ap (drop (length p)) over-from ∙ drop-at p (drop (at + length p) old) (length p) refl
 
   -- what is as long as what stood there takes its place whole
   pub over-all : (p old : List A) → length p ≡ length old → over 0 p old ≡ p

@@ -17,7 +17,7 @@ use Rattle.messages.specs.Step.{declaredLength}
 
 module _ (datagram : List ℕ) where
   -- ---- bytes that are passed over
-  passed-none : (position : ℕ) → position ≤ length datagram → PassedOver datagram position position
+  pub passed-none : (position : ℕ) → position ≤ length datagram → PassedOver datagram position position
   passed-none position h = record { onward = omega arith; inside = h; each = λ n l u. absurd (omega arith) }
 
   passed-one : (position place : ℕ) → byteAt datagram position ≡ 81 → PassedOver datagram (position + 1) place → PassedOver datagram position place

@@ -6,7 +6,6 @@ use Prim.Native.Nat.{ℕ, _+_, _-_}
 use native.Mathlib.Nat.{le-of-eq}
 use lib.ListN.{length, take, drop, length-drop, length-append, drop-of-length-le}
 use lib.Seq.{take-at, drop-at, drop-drop}
-use Rattle.answers.specs.Outcome.{laid}
 use Rattle.lists.specs.Over.{over}
 use Rattle.lists.proofs.Over.{over-zero}
 use Rattle.lists.proofs.Parts.{part-rest}
@@ -15,10 +14,10 @@ use Rattle.lists.proofs.Parts.{part-rest}
 behind : (n : ℕ) (mid : List ℕ) → drop (length mid - n) (drop n mid) ≡ []
 behind n mid = drop-of-length-le (drop n mid) (le-of-eq (length-drop n mid))
 
-pub part-laid : (p q old mid part : List ℕ) (n : ℕ) → length p ≡ n → mid ≡ over 0 p old → part ≡ laid q (take (length mid - n) (drop n mid))
-    → take n mid ++ (part ++ drop (length mid - n) (drop n mid)) ≡ laid (p ++ q) old
+pub part-laid : (p q old mid part : List ℕ) (n : ℕ) → length p ≡ n → mid ≡ over 0 p old → part ≡ over 0 q (take (length mid - n) (drop n mid))
+    → take n mid ++ (part ++ drop (length mid - n) (drop n mid)) ≡ over 0 (p ++ q) old
 part-laid p q old mid part n l first second =
     let laid-first = first ∙ over-zero p old in
     let front : take n mid ≡ p = ap (take n) laid-first ∙ take-at p (drop (length p) old) n l in
     let rest : drop n mid ≡ drop (length p) old = ap (drop n) laid-first ∙ drop-at p (drop (length p) old) n l in
-    rw (second, behind n mid, append-nil, part-rest n mid, front, rest, drop-drop (length q) (length p) old, length-append p q, append-assoc p q (drop (length p + length q) old))
+    rw (second, over-zero q, over-zero (p ++ q), behind n mid, append-nil, part-rest n mid, front, rest, drop-drop (length q) (length p) old, length-append p q, append-assoc p q (drop (length p + length q) old))

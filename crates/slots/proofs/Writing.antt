@@ -8,7 +8,7 @@ use native.Mathlib.Omega.{arith}
 use lib.ListN.{length, take, drop, length-append, length-drop}
 use Rattle.answers.specs.declared.Written.{Written}
 use Rattle.answers.specs.Written.{wrote}
-use Rattle.answers.specs.Outcome.{Outcome, laid, Wrote, writing}
+use Rattle.answers.specs.Outcome.{Outcome, Wrote, writing}
 use Rattle.answers.proofs.Task.{write-done, Writing, unoffered, too-long, too-short, writes, writing-goes}
 use Rattle.answers.proofs.Wrote.{lays, told, held}
 use Rattle.lists.specs.Over.{over}
@@ -77,4 +77,4 @@ module _ (link : ℕ) (o : isSlotLink link ≡ true) (datagram : List ℕ) (fits
         → Wrote (writeSlot link datagram (length old)) old (take headLength mid ++ (part ++ drop (length mid - headLength) (drop headLength mid))) answer
     written a =
         lays (write-done (slotTask link datagram) (length old) o fits room) (a ∙ ap wrote (omega (arith, long-burst, counted)))
-        (part-laid (map byte (headOf link)) image old mid part headLength (length-head link) head (held rest block-laid) ∙ ap (λ (l : List ℕ). laid l old) (sym burst-parts))
+        (part-laid (map byte (headOf link)) image old mid part headLength (length-head link) head (held rest block-laid) ∙ ap (λ (l : List ℕ). over 0 l old) (sym burst-parts))

@@ -1,20 +1,22 @@
 // The exported calls, tied to the claims: each function calls one of them by its exported name and ensures the very relation that the
-// theorems of claims speak of, so an export with a weaker contract is refused here. A datagram that is lent is one of bytes, and the array of
-// a state has 1,504 of them.
+// theorems of claims speak of, so an export with a weaker contract is refused here. A datagram that is lent is one of bytes, a source is of
+// 32 bits, and the array of a state has 1,504 bytes.
 use answers::Written;
 use blocks::Block;
+use message_writer::Laid;
 use messages::Step;
 use printer_text::Text;
 use slots::Slot;
 use words::Word;
 ghost use mathlib.Core.Path.{_≡_};
 ghost use mathlib.Core.Bool.{true};
+ghost use Prim.Native.Nat.{_<_};
 ghost use lib.ListN.{length};
 ghost use Rattle.bits.specs.Datagram.{allBytes};
 ghost use Rattle.parts.specs.State.{longest, state};
 ghost use Rattle.parts.specs.Taking.{TookPart};
 ghost use Rattle.parts.specs.Asking.{ReadParts};
-ghost use Rattle.claims.specs.Calls.{WroteWord, ReadWord, WroteBlock, ReadBlock, WroteSlot, ReadSlot, Stepped, Printed};
+ghost use Rattle.claims.specs.Calls.{WroteWord, ReadWord, WroteBlock, ReadBlock, WroteSlot, ReadSlot, Stepped, WroteMessage, ZeroFilled, Printed};
 
 pub fn write_word(number: u32, out: &mut [u8]) -> Written
     ensures { λ r. ⌜ WroteWord number (now (out .entry)) (now (out .exit)) r ⌝ }
@@ -74,6 +76,18 @@ pub fn step_message(datagram: &[u8], position: usize) -> Step
     ensures { λ r. ⌜ Stepped (now (datagram .entry)) position r ⌝ }
 {
     decklewren::decklewren_step_message(datagram, position)
+}
+
+pub fn write_message(datagram: &mut [u8], start: usize, kind: u8, source: u32, body: &[u8]) -> Laid
+    ensures { λ r. ⌜ WroteMessage start kind source (now (body .entry)) (now (datagram .entry)) (now (datagram .exit)) r ⌝ ∗ ⌜ source < 4294967296 ⌝ }
+{
+    decklewren::decklewren_write_message(datagram, start, kind, source, body)
+}
+
+pub fn zero_fill(datagram: &mut [u8], start: usize) -> Laid
+    ensures { λ r. ⌜ ZeroFilled start (now (datagram .entry)) (now (datagram .exit)) r ⌝ }
+{
+    decklewren::decklewren_zero_fill(datagram, start)
 }
 
 // The text that the link word printer's `main` prints.

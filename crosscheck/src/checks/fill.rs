@@ -1,14 +1,14 @@
 //! The tests of the fill that a step passes over (document 02, K1): runs of 81s of many lengths, each
 //! with all that may stand behind them, and runs far longer than a stack is deep.
 
-use crate::harness::archive::{self, Stepped};
+use crate::harness::archive;
 use crate::harness::caller::Caller;
 use crate::harness::report::{named_tests, Given, NamedTest, Test};
 use crate::harness::requests::messages::{numbers, stepped, Numbers, StepMessage};
+use crate::harness::small_stack::on_a_small_stack;
 use crate::second::messages::step;
 use crate::second::Second;
 use std::iter;
-use std::thread::{self, Builder};
 
 pub const TESTS: &[NamedTest] = named_tests![
     second_passes_over_runs_of_81,
@@ -74,23 +74,13 @@ fn archive_passes_over_runs_of_81(given: &Given, test: &mut Test) {
     }
 }
 
-/// A step that keeps a frame for each byte passed over, as plain recursion does, overruns the stack:
-/// that ends the process, and so the test fails.
 fn archive_passes_over_16_mib_on_a_small_stack(_: &Given, test: &mut Test) {
     let run = 16 << 20;
     for (ending, answer) in endings(run) {
         let mut datagram = datagram_of(run, ending);
         let call = || format!("step at 0, {run} bytes 81 and {ending:?}, 64 KiB of stack");
-        let calls = iter::once_with(|| step_on_a_small_stack(&mut datagram));
+        let step = || archive::step_message(&mut datagram, 0);
+        let calls = iter::once_with(|| on_a_small_stack(step));
         test.case(call, stepped(answer), calls);
     }
-}
-
-fn step_on_a_small_stack(datagram: &mut [u8]) -> Stepped {
-    thread::scope(|scope| {
-        let thread = Builder::new().stack_size(64 << 10);
-        let started = thread.spawn_scoped(scope, || archive::step_message(datagram, 0));
-        let running = started.expect("a thread can be started");
-        running.join().expect("a step does not panic")
-    })
 }

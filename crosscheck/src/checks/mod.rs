@@ -7,6 +7,8 @@ mod fill;
 mod lies;
 mod link_4;
 mod links;
+mod message_lists;
+mod message_writing;
 mod messages;
 mod outside;
 mod parts;
@@ -18,10 +20,12 @@ mod slots_reading;
 mod slots_refusals;
 mod slots_writing;
 mod tool;
+mod tool_messages;
 mod tool_steps;
 mod tool_use;
 mod words;
 mod worked_burst;
+mod zero_fill;
 
 use crate::harness::report::NamedTest;
 
@@ -39,6 +43,9 @@ pub fn all() -> Vec<NamedTest> {
         messages::TESTS,
         fill::TESTS,
         lies::TESTS,
+        message_writing::TESTS,
+        zero_fill::TESTS,
+        message_lists::TESTS,
         blocks_writing::TESTS,
         blocks_reading::TESTS,
         link_4::TESTS,
@@ -49,6 +56,7 @@ pub fn all() -> Vec<NamedTest> {
         parts_states::TESTS,
         tool::TESTS,
         tool_steps::TESTS,
+        tool_messages::TESTS,
         tool_use::TESTS,
     ]
     .concat()

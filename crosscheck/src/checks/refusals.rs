@@ -1,8 +1,11 @@
 //! The tests of the second implementation's refusals and counts.
 
+use crate::harness::message_faults;
 use crate::harness::mixed_faults;
 use crate::harness::ordered_faults;
 use crate::harness::report::{named_tests, Given, NamedTest, Test};
+use crate::harness::requests::message_writing::WriteMessage;
+use crate::harness::requests::Request;
 use crate::harness::samples::SLOT_SIZES;
 use crate::second::slots::SLOT_LINKS;
 use crate::second::Second;
@@ -15,6 +18,7 @@ pub const TESTS: &[NamedTest] = named_tests![
     second_orders_refusals_to_write_slots,
     second_orders_refusals_to_read_slots,
     second_orders_mixed_faults_of_slots,
+    second_orders_mixed_faults_of_messages,
 ];
 
 fn second_holds_p10(given: &Given, test: &mut Test) {
@@ -98,6 +102,18 @@ fn second_orders_mixed_faults_of_slots(given: &Given, test: &mut Test) {
         for ((burst, buffer), refusal) in mixed_faults::reading_slots(&second, link, &mut random) {
             let call = || format!("read slot, buffer of {buffer}, {burst:?}");
             test.case(call, Err(refusal), [second.read_slot(&burst, buffer)]);
+        }
+    }
+}
+
+fn second_orders_mixed_faults_of_messages(given: &Given, test: &mut Test) {
+    let second = Second::read(&given.tables);
+    let mut random = test.random(14);
+    for _ in 0..40 {
+        for ((length, start, message), refusal) in message_faults::writing_messages(&mut random) {
+            let request = WriteMessage(length, start, &message);
+            let written = request.ask_second(&second);
+            test.case(|| request.shown(), Err(refusal), [written]);
         }
     }
 }

@@ -1,12 +1,14 @@
 //! The tests of how the command line tool is used: its input's forms and limit, damage, help, wrong
 //! usage, pipes and output that cannot be written.
 
-use crate::harness::program::{run, Input, Run};
+use crate::harness::program::{run, Input};
 use crate::harness::report::{named_tests, Given, NamedTest, Test};
-use crate::harness::tool::{done, ended, hex_line, line, not_taken, refused_at, refused_for, runs};
+use crate::harness::tool::{
+    done, ended, hex_line, line, not_taken, refused_at, refused_for, runs, shell, too_long,
+    wrong_usage,
+};
 use crate::second::bits::inverted;
 use std::collections::BTreeSet;
-use std::path::Path;
 
 pub const TESTS: &[NamedTest] = named_tests![
     tool_drops_one_newline,
@@ -132,10 +134,6 @@ fn tool_takes_64_kib(given: &Given, test: &mut Test) {
     }
 }
 
-fn too_long() -> Run {
-    not_taken("standard input is longer than 64 KiB".to_string())
-}
-
 /// The places that a run of damage inverted, or none if it is not as it should be.
 fn damaged(given: &Given, row: &[u8], count: usize, seed: &str) -> Option<BTreeSet<usize>> {
     let count_text = count.to_string();
@@ -233,6 +231,8 @@ fn tool_helps(given: &Given, test: &mut Test) {
             "write-slot LINK",
             "read-slot [-x] [--parts N]",
             "step [POSITION]",
+            "write-message --type T --source S [-x] [--into FILE [--at START]]\n ",
+            "zero-fill SIZE [-x]",
             "damage N [--seed S]",
             "help",
         ];
@@ -296,8 +296,7 @@ fn tool_refuses_wrong_usage(given: &Given, test: &mut Test) {
         ("step --parts 8", "step does not take --parts"),
         ("damage 1 --parts 8", "damage does not take --parts"),
     ] {
-        let errors = format!("decklewren: {words}\nTry 'decklewren --help'.\n");
-        runs(given, test, arguments, b"0", ended(2, &[], errors));
+        runs(given, test, arguments, b"0", wrong_usage(words));
     }
     let seen = run(&given.tool, &[], Input::whole(""), 0);
     let usage = seen.errors.starts_with("usage: decklewren ");
@@ -312,13 +311,6 @@ fn tool_refuses_wrong_usage(given: &Given, test: &mut Test) {
         (String::new(), true, Some(2)),
         [shown],
     );
-}
-
-/// What a line of the shell shows in which D stands for the tool.
-fn shell(given: &Given, script: &str) -> (String, Option<i32>) {
-    let script = script.replace('D', &given.tool.display().to_string());
-    let seen = run(Path::new("sh"), &["-c", &script], Input::whole(""), 0);
-    (seen.output, seen.exit)
 }
 
 /// An ice notice goes from hand to hand; a refusal on the way leaves the next command nothing.
@@ -400,10 +392,17 @@ fn tool_fails_where_output_fails(given: &Given, test: &mut Test) {
             "printf 4a000700000001 | D step -x 0 2>&1 >/dev/full",
             output,
         ),
+        (
+            "D write-message --type 9 --source 1 </dev/null 2>&1 >/dev/full",
+            output,
+        ),
+        ("D zero-fill 9 </dev/null 2>&1 >/dev/full", output),
         ("D --help 2>&1 >/dev/full", output),
         ("D --version 2>&1 >/dev/full", output),
         ("D step 2>&1 </", input),
         ("D read-word 2>&1 <&-", input),
+        ("D write-message --type 9 --source 1 2>&1 </", input),
+        ("D zero-fill 9 2>&1 <&-", input),
     ] {
         let shown = shell(given, script);
         test.case(|| script.into(), (words.to_string(), Some(3)), [shown]);

@@ -45,6 +45,13 @@ pub struct Stepped {
     pub missing: u64,
 }
 
+#[repr(C)]
+#[derive(Clone, Copy, Debug, PartialEq)]
+pub struct Laid {
+    pub status: u32,
+    pub count: u64,
+}
+
 extern "C" {
     fn decklewren_write_word(number: u32, out: *mut u8, out_len: usize) -> Written;
     fn decklewren_read_word(bits: *const u8, bits_len: usize) -> WordRead;
@@ -87,6 +94,16 @@ extern "C" {
         datagram_len: usize,
         position: usize,
     ) -> Stepped;
+    fn decklewren_write_message(
+        datagram: *mut u8,
+        datagram_len: usize,
+        start: usize,
+        kind: u8,
+        source: u32,
+        body: *const u8,
+        body_len: usize,
+    ) -> Laid;
+    fn decklewren_zero_fill(datagram: *mut u8, datagram_len: usize, start: usize) -> Laid;
 }
 
 pub fn write_word(number: u32, out: &mut [u8]) -> Written {
@@ -144,4 +161,43 @@ pub fn read_parts(count: &mut u32, bits: &mut [u8; LONGEST], out: &mut [u8]) -> 
 pub fn step_message(datagram: &mut [u8], position: usize) -> Stepped {
     // SAFETY: pointer and length are those of one slice, lent for the call.
     unsafe { decklewren_step_message(datagram.as_mut_ptr(), datagram.len(), position) }
+}
+
+pub fn write_message(
+    datagram: &mut [u8],
+    start: usize,
+    kind: u8,
+    source: u32,
+    body: &mut [u8],
+) -> Laid {
+    let (body, body_len) = (body.as_mut_ptr(), body.len());
+    let (datagram, datagram_len) = (datagram.as_mut_ptr(), datagram.len());
+    // SAFETY: each pointer and its length are those of one slice, lent for the call.
+    unsafe { decklewren_write_message(datagram, datagram_len, start, kind, source, body, body_len) }
+}
+
+/// A message of a caller that has no body and no pointer to one.
+pub fn write_bodiless(datagram: &mut [u8], start: usize, kind: u8, source: u32) -> Laid {
+    let (datagram, datagram_len) = (datagram.as_mut_ptr(), datagram.len());
+    // SAFETY: one pointer and length are those of a lent slice; of no bytes the other may be null.
+    unsafe { decklewren_write_message(datagram, datagram_len, start, kind, source, ptr::null(), 0) }
+}
+
+/// A message of a caller that has no datagram and no pointer to one.
+pub fn write_message_nowhere(start: usize, kind: u8, source: u32, body: &mut [u8]) -> Laid {
+    let (body, body_len) = (body.as_mut_ptr(), body.len());
+    let nowhere = ptr::null_mut();
+    // SAFETY: one pointer and length are those of a lent slice; of no bytes the other may be null.
+    unsafe { decklewren_write_message(nowhere, 0, start, kind, source, body, body_len) }
+}
+
+pub fn zero_fill(datagram: &mut [u8], start: usize) -> Laid {
+    // SAFETY: pointer and length are those of one slice, lent for the call.
+    unsafe { decklewren_zero_fill(datagram.as_mut_ptr(), datagram.len(), start) }
+}
+
+/// The zero fill of a caller that has no datagram and no pointer to one.
+pub fn zero_fill_nowhere(start: usize) -> Laid {
+    // SAFETY: of no bytes the pointer may be null.
+    unsafe { decklewren_zero_fill(ptr::null_mut(), 0, start) }
 }

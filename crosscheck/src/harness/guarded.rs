@@ -5,8 +5,11 @@ use std::ffi::{c_int, c_void};
 use std::ops::Range;
 use std::{ptr, slice};
 
-/// Bytes in the room and in the guard on either side: a multiple of every page size in use.
+/// Bytes in a room and in the guard on either side: a multiple of every page size in use.
 pub const ROOM: usize = 65_536;
+
+/// Bytes in a room that has place for the longest message and for as many before and behind it.
+pub const LONG_ROOM: usize = 3 * ROOM;
 
 /// A room is laid in pieces of so many bytes: under an emulator one long copy takes ten times as long.
 const PIECE: usize = 1024;
@@ -39,38 +42,45 @@ pub enum Placed {
 pub const BOTH_PLACES: [Placed; 2] = [Placed::AtStart, Placed::AtEnd];
 
 impl Placed {
-    /// The part of the room that a buffer of this length takes.
-    pub fn span(self, length: usize) -> Range<usize> {
+    /// The part of a room of so many bytes that a buffer of this length takes.
+    pub fn span(self, room: usize, length: usize) -> Range<usize> {
         match self {
             Placed::AtStart => 0..length,
-            Placed::AtEnd => ROOM - length..ROOM,
+            Placed::AtEnd => room - length..room,
         }
     }
 }
 
 pub struct Guarded {
     mapping: *mut u8,
+    room: usize,
     read_only_in_calls: bool,
 }
 
 impl Guarded {
     /// A room that may be written to at all times.
     pub fn new() -> Guarded {
-        Guarded::mapped(false)
+        Guarded::of(ROOM)
+    }
+
+    /// The same of so many bytes.
+    pub fn of(room: usize) -> Guarded {
+        Guarded::mapped(room, false)
     }
 
     /// A room that is read-only while a call is made: whoever then writes to it ends the process.
     pub fn read_only_in_calls() -> Guarded {
-        Guarded::mapped(true)
+        Guarded::mapped(ROOM, true)
     }
 
-    fn mapped(read_only_in_calls: bool) -> Guarded {
-        let flags = MAP_PRIVATE | MAP_ANONYMOUS;
+    fn mapped(room: usize, read_only_in_calls: bool) -> Guarded {
+        let (all, flags) = (with_guards(room), MAP_PRIVATE | MAP_ANONYMOUS);
         // SAFETY: a new mapping of its own, at an address the system chooses.
-        let mapping = unsafe { mmap(ptr::null_mut(), 3 * ROOM, PROT_NONE, flags, -1, 0) };
+        let mapping = unsafe { mmap(ptr::null_mut(), all, PROT_NONE, flags, -1, 0) };
         assert!(mapping as isize != -1, "no memory for the guarded room");
         let mut guarded = Guarded {
             mapping: mapping.cast(),
+            room,
             read_only_in_calls,
         };
         guarded.protect(PROT_READ | PROT_WRITE);
@@ -96,7 +106,7 @@ impl Guarded {
 
     fn protect(&mut self, protection: c_int) {
         // SAFETY: the room is whole pages of this mapping, and no slice of it is lent out.
-        let done = unsafe { mprotect(self.start().cast(), ROOM, protection) };
+        let done = unsafe { mprotect(self.start().cast(), self.room, protection) };
         assert_eq!(done, 0, "the room's protection cannot be changed");
     }
 
@@ -107,7 +117,7 @@ impl Guarded {
     /// The whole room.
     pub fn bytes(&mut self) -> &mut [u8] {
         // SAFETY: the room is readable memory of this mapping, lent to one borrower at a time.
-        unsafe { slice::from_raw_parts_mut(self.start(), ROOM) }
+        unsafe { slice::from_raw_parts_mut(self.start(), self.room) }
     }
 
     /// Lays this content over the whole room.
@@ -116,9 +126,15 @@ impl Guarded {
         pieces.for_each(|(piece, content)| piece.copy_from_slice(content));
     }
 
+    /// The part of the room that a buffer of this length at this place takes.
+    pub fn span(&self, placed: Placed, length: usize) -> Range<usize> {
+        placed.span(self.room, length)
+    }
+
     /// The buffer of this length at this place.
     pub fn buffer(&mut self, placed: Placed, length: usize) -> &mut [u8] {
-        &mut self.bytes()[placed.span(length)]
+        let span = self.span(placed, length);
+        &mut self.bytes()[span]
     }
 
     /// The four bytes at this place, as the number that a call is lent.
@@ -138,6 +154,11 @@ impl Guarded {
 impl Drop for Guarded {
     fn drop(&mut self) {
         // SAFETY: the mapping is this room's own and nothing borrows from it any more.
-        unsafe { munmap(self.mapping.cast(), 3 * ROOM) };
+        unsafe { munmap(self.mapping.cast(), with_guards(self.room)) };
     }
+}
+
+/// The bytes of a room and of the guards on either side.
+fn with_guards(room: usize) -> usize {
+    ROOM + room + ROOM
 }

@@ -44,14 +44,20 @@ pub fn reading_slots(
     link: &Link,
     random: &mut Random,
 ) -> Vec<(SlotRequest, Refusal)> {
-    let mixes = (1..1 << IN_ORDER.len()).map(|mix: usize| {
-        let in_mix = (0..IN_ORDER.len()).filter(|n| mix >> n & 1 == 1);
-        let faults: Vec<(Fault, Refusal)> = in_mix.map(|n| IN_ORDER[n]).collect();
-        let (_, refusal) = faults[0];
-        let has = |fault| faults.iter().any(|&(one, _)| one == fault);
+    let requests = mixes(&IN_ORDER).map(|(faults, refusal)| {
+        let has = |fault| faults.contains(&fault);
         (request(second, link, has, random), refusal)
     });
-    mixes.collect()
+    requests.collect()
+}
+
+/// Every mix of these faults, and the refusal of the first that is in it.
+pub fn mixes<F: Copy>(in_order: &[(F, Refusal)]) -> impl Iterator<Item = (Vec<F>, Refusal)> + '_ {
+    (1..1 << in_order.len()).map(|mix: usize| {
+        let in_mix = (0..in_order.len()).filter(|n| mix >> n & 1 == 1);
+        let (faults, refusals): (Vec<F>, Vec<Refusal>) = in_mix.map(|n| in_order[n]).unzip();
+        (faults, refusals[0])
+    })
 }
 
 /// Bits are inverted first, while all are bits; the burst is cut or lengthened last.

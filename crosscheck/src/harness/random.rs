@@ -22,6 +22,10 @@ impl Random {
         (self.next() % bound as u64) as usize
     }
 
+    pub fn one_of<T: Copy>(&mut self, these: &[T]) -> T {
+        these[self.below(these.len())]
+    }
+
     /// A row of bits, one to a byte.
     pub fn bits(&mut self, length: usize) -> Vec<u8> {
         (0..length).map(|_| self.below(2) as u8).collect()

@@ -16,10 +16,15 @@ pub fn shown_to(limit: usize, row: &[u8]) -> String {
 
 /// A datagram, a long one without its middle.
 pub fn shown_datagram(datagram: &[u8]) -> String {
-    let count = datagram.len();
+    format!("datagram {}", shown_bytes(datagram))
+}
+
+/// Bytes, of many without those in the middle.
+pub fn shown_bytes(bytes: &[u8]) -> String {
+    let count = bytes.len();
     if count <= 64 {
-        return format!("datagram {datagram:?} ({count} bytes)");
+        return format!("{bytes:?} ({count} bytes)");
     }
-    let (start, end) = (&datagram[..48], &datagram[count - 16..]);
-    format!("datagram {start:?} .. {end:?} ({count} bytes)")
+    let (start, end) = (&bytes[..48], &bytes[count - 16..]);
+    format!("{start:?} .. {end:?} ({count} bytes)")
 }

@@ -61,8 +61,9 @@ impl LentState {
     /// is made so, and the next case stands alone.
     pub fn left(&mut self, placed: Placed) -> (bool, bool) {
         let fresh = self.held(placed) == State::FRESH;
-        let rest_unchanged = self.count.rest_is(&self.fresh_count, placed.span(COUNT))
-            && self.bits.rest_is(&self.fresh_bits, placed.span(LONGEST));
+        let [count, bits] = [COUNT, LONGEST].map(|length| placed.span(ROOM, length));
+        let rest_unchanged = self.count.rest_is(&self.fresh_count, count)
+            && self.bits.rest_is(&self.fresh_bits, bits);
         if !(fresh && rest_unchanged) {
             self.renew();
         }
@@ -79,7 +80,7 @@ fn bits_at(room: &mut Guarded, placed: Placed) -> &mut [u8; LONGEST] {
 fn zeros_at_both_places(length: usize) -> Vec<u8> {
     let mut room = vec![0xA5; ROOM];
     for placed in BOTH_PLACES {
-        room[placed.span(length)].fill(0);
+        room[placed.span(ROOM, length)].fill(0);
     }
     room
 }

@@ -5,10 +5,11 @@ use crate::harness::program::{as_characters, run, Input, Run};
 use crate::harness::report::{Given, Test};
 use crate::second::words::Refusal;
 use std::fmt::Display;
+use std::path::Path;
 
-/// Document 01, "Numbers a caller gets back": the words of the refusals 1 to 12, from 9 on as document
-/// 02's K1 and K3 have them.
-const WORDS: [&str; 12] = [
+/// Document 01, "Numbers a caller gets back": the words of the refusals 1 to 14, from 8 on as document
+/// 02's K1, K3 and K6 have them.
+const WORDS: [&str; 14] = [
     "link not offered; number above 63 for a link word; slot burst not of link 5, 6, 7",
     "datagram longer than the link holds; link word, block or slot burst of the wrong length",
     "output buffer too short",
@@ -16,11 +17,13 @@ const WORDS: [&str; 12] = [
     "training differs",
     "no code word within seven",
     "no valid block's image within one",
-    "position past the end",
+    "position or start past the end",
     "length below 7",
     "a byte other than 0 after a 0",
     "fewer than 3 bytes left",
     "message past the end",
+    "type 0 or 81",
+    "more than 65528 bytes after the source",
 ];
 
 /// A run that ends well, with these bytes and this line of counts.
@@ -73,9 +76,20 @@ fn other_character(row: &[u8]) -> Option<String> {
     Some(format!("character {} is {name}", place + 1))
 }
 
+/// A run of wrong usage, with this fault.
+pub fn wrong_usage(fault: &str) -> Run {
+    let errors = format!("decklewren: {fault}\nTry 'decklewren --help'.\n");
+    ended(2, &[], errors)
+}
+
 /// A run that the tool itself refuses, with these words.
 pub fn not_taken(words: String) -> Run {
     ended(1, &[], format!("decklewren: {words}\n"))
+}
+
+/// A run whose standard input is longer than what is taken.
+pub fn too_long() -> Run {
+    not_taken("standard input is longer than 64 KiB".to_string())
 }
 
 pub fn ended(exit: i32, output: &[u8], errors: String) -> Run {
@@ -96,6 +110,13 @@ pub fn runs(given: &Given, test: &mut Test, arguments: &str, input: &[u8], expec
     let parted: Vec<&str> = arguments.split_whitespace().collect();
     let seen = run(&given.tool, &parted, Input::whole(input), 0);
     test.case(call, expected, [seen]);
+}
+
+/// What a script of the shell shows in which D stands for the tool.
+pub fn shell(given: &Given, script: &str) -> (String, Option<i32>) {
+    let script = format!("D() {{ '{}' \"$@\"; }}\n{script}", given.tool.display());
+    let seen = run(Path::new("sh"), &["-c", &script], Input::whole(""), 0);
+    (seen.output, seen.exit)
 }
 
 /// Bits as the tool takes and prints them: characters on a line. A byte that is no bit becomes a

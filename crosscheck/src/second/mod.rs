@@ -11,6 +11,7 @@ pub mod interleaver;
 pub mod link_4;
 pub mod link_tables;
 pub mod links;
+pub mod message_writing;
 pub mod messages;
 pub mod parts;
 pub mod readers;

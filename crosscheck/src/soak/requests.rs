@@ -2,9 +2,12 @@
 //! links, lengths, bits and room.
 
 use crate::harness::caller::Caller;
+use crate::harness::guarded::ROOM;
+use crate::harness::lists::message_of;
 use crate::harness::ordered_faults::NOT_OFFERED;
 use crate::harness::random::Random;
 use crate::harness::requests::blocks::{ReadBlock, WriteBlock};
+use crate::harness::requests::message_writing::{WriteMessage, ZeroFill};
 use crate::harness::requests::messages::StepMessage;
 use crate::harness::requests::parts::{cut, ReadParts};
 use crate::harness::requests::slots::{ReadWhole, WriteSlot};
@@ -20,7 +23,7 @@ use crate::second::Second;
 /// A call by its name, and a function that makes one case of it.
 pub type Kind = (&'static str, fn(&Second, &mut Random, &mut Caller));
 
-pub const KINDS: [Kind; 8] = [
+pub const KINDS: [Kind; 10] = [
     ("write_word", write_a_word),
     ("read_word", read_a_word),
     ("write_block", write_a_block),
@@ -29,6 +32,8 @@ pub const KINDS: [Kind; 8] = [
     ("read_slot", read_a_slot),
     ("read_parts", read_parts),
     ("step_message", step_once),
+    ("write_message", write_a_message),
+    ("zero_fill", fill_with_zeros),
 ];
 
 /// True once in so many times.
@@ -243,4 +248,43 @@ fn lay_fill(datagram: &mut Vec<u8>, random: &mut Random) {
         _ => random.below(300),
     };
     datagram.extend(vec![81; count]);
+}
+
+/// Mostly a short message with enough room, now and then one around the longest or of a type of fill, in
+/// a datagram as long as the room at the most.
+fn write_a_message(second: &Second, random: &mut Random, caller: &mut Caller) {
+    let body = match random.below(40) {
+        0 => 65_522 + random.below(12),
+        1 => random.below(65_536),
+        2..=9 => random.below(700),
+        _ => random.below(40),
+    };
+    let mut message = message_of(body, random);
+    if once_in(10, random) {
+        message.kind = random.one_of(&[0, 80, 81, 82]);
+    }
+    let before = random.one_of(&[0, 0, 1, 32, 698]);
+    let length = before + room_for(message.length(), random);
+    let length = length.min(ROOM);
+    let start = some_start(before, length, random);
+    caller.compare(second, WriteMessage(length, start, &message));
+}
+
+fn fill_with_zeros(second: &Second, random: &mut Random, caller: &mut Caller) {
+    let length = match random.below(20) {
+        0 => random.below(ROOM + 1),
+        _ => random.below(700),
+    };
+    let inside = random.below(length + 1);
+    let start = some_start(inside, length, random);
+    caller.compare(second, ZeroFill(length, start));
+}
+
+/// Most often this one, else around the end, or so far past it that a sum wraps.
+fn some_start(start: usize, length: usize, random: &mut Random) -> usize {
+    match random.below(12) {
+        0 => (length + 2).saturating_sub(random.below(5)),
+        1 => usize::MAX - random.below(length + 9),
+        _ => start,
+    }
 }

@@ -11,7 +11,6 @@ use borrow.Author.Tests.{ltb-true}
 use Rattle.answers.specs.Written.{wrote}
 use Rattle.answers.proofs.Task.{write-unoffered, write-long, write-short, write-done}
 use Rattle.answers.proofs.Wrote.{refuses, lays}
-use Rattle.lists.proofs.Over.{over-zero}
 use Rattle.lists.proofs.Tests.{holds, fails}
 use Rattle.links.specs.Rows.{rows, offered, rowOf}
 use Rattle.links.specs.Sizes.{bytesHeld, imageLength}
@@ -83,7 +82,7 @@ returns-4 c =
     lays
     (write-done _ _ (offers (found .before)) (rw (row found) at (fits (at .before))) (omega (arith, c .before .before .before .before .before .if3 .left, size at)))
     (c .done .ensures ∙ ap wrote (laid .0 ∙ zero-add _))
-    (laid .1 ∙ over-zero _ _)
+    (laid .1)
 
 pub write-spec : {M : Type 1} → statement M
 write-spec =

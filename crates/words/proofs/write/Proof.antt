@@ -10,8 +10,6 @@ use Rattle.answers.proofs.Wrote.{refuses, lays}
 use Rattle.bits.specs.Bits.{byte}
 use Rattle.bits.specs.Row.{highFirst}
 use Rattle.lists.specs.Over.{over}
-use Rattle.lists.proofs.Over.{over-zero}
-use Rattle.words.specs.Word.{wordBits}
 use Rattle.words.proofs.Calls.{write-high, write-short, write-done, length-word}
 use Rattle.words.proofs.write.Statement.{statement}
 use Rattle.words.proofs.write.Tie as tie
@@ -29,12 +27,11 @@ returns-2 c =
 returns-3 : tie.Need-returns-3
 returns-3 c =
     let a = c .before .before .before .before .before .before .before .before .before .args in
-    let bytes = map byte (wordBits (a .number)) in
     let word = ap (λ (w : ℕ). over 0 (map byte (highFirst 32 w)) (a .out .now)) (c .before .before .before .before .before .word-of .ensures) in
     lays
     (write-done (a .number) (length (a .out .now)) (omega arith) (omega arith))
     (c .done .ensures ∙ ap wrote (sym (length-word (a .number))))
-    (c .before .before .before .lay-row .ensures ∙ word ∙ over-zero bytes (a .out .now))
+    (c .before .before .before .lay-row .ensures ∙ word)
 
 pub write-spec : {M : Type 1} → statement M
 write-spec =

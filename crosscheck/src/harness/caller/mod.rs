@@ -3,11 +3,24 @@
 
 pub mod parts;
 
-use crate::harness::guarded::{Guarded, Placed, BOTH_PLACES, ROOM};
+use crate::harness::guarded::{Guarded, Placed, BOTH_PLACES, LONG_ROOM, ROOM};
 use crate::harness::random::Random;
 use crate::harness::report::Test;
 use crate::harness::state::LentState;
 use std::fmt::Debug;
+
+/// Bytes that a call is to write, and the place of its buffer where they begin.
+pub struct WrittenAt {
+    pub place: usize,
+    pub bytes: Vec<u8>,
+}
+
+impl From<Vec<u8>> for WrittenAt {
+    /// Most calls write at the buffer's start.
+    fn from(bytes: Vec<u8>) -> WrittenAt {
+        WrittenAt { place: 0, bytes }
+    }
+}
 
 /// What is seen of a call that writes to a buffer: its answer, the first byte that is not as it was
 /// to be written, and whether every other byte of the room, in the buffer and around it, is as it was.
@@ -67,12 +80,17 @@ pub struct Caller<'a> {
 
 impl<'a> Caller<'a> {
     pub fn new(test: &'a mut Test) -> Caller<'a> {
-        Caller::of(test, Guarded::new(), two_contents())
+        Caller::of(test, Guarded::new(), two_contents(ROOM))
+    }
+
+    /// One whose output has room for more than the longest message.
+    pub fn with_long_output(test: &'a mut Test) -> Caller<'a> {
+        Caller::of(test, Guarded::new(), two_contents(LONG_ROOM))
     }
 
     /// One whose input is read-only while a call is made.
     pub fn with_read_only_input(test: &'a mut Test) -> Caller<'a> {
-        Caller::of(test, Guarded::read_only_in_calls(), two_contents())
+        Caller::of(test, Guarded::read_only_in_calls(), two_contents(ROOM))
     }
 
     /// One whose output is filled with each of the 256 bytes in turn.
@@ -86,7 +104,7 @@ impl<'a> Caller<'a> {
             test,
             cutting: Random::from_seed(2),
             input,
-            output: Guarded::new(),
+            output: Guarded::of(old_contents[0].len()),
             old_contents,
             state: LentState::fresh(),
         }
@@ -116,9 +134,10 @@ impl<'a> Caller<'a> {
         &mut self,
         name: impl Fn() -> String,
         length: usize,
-        (answer, written): (A, Vec<u8>),
+        (answer, written): (A, impl Into<WrittenAt>),
         call: impl Fn(&mut [u8]) -> A,
     ) {
+        let written = written.into();
         let old_contents = &self.old_contents;
         let places = BOTH_PLACES.into_iter();
         let ways = places.flat_map(|placed| old_contents.iter().map(move |old| (placed, old)));
@@ -134,9 +153,10 @@ impl<'a> Caller<'a> {
         name: impl Fn() -> String,
         input: &[u8],
         length: usize,
-        (answer, written): (A, Vec<u8>),
+        (answer, written): (A, impl Into<WrittenAt>),
         call: impl Fn(&mut [u8], &mut [u8]) -> A,
     ) {
+        let written = written.into();
         let ways = BOTH_PLACES.into_iter().cycle().zip(&self.old_contents);
         let calls = ways.map(|(placed, old)| {
             reading(&mut self.input, placed, input, |input| {
@@ -149,10 +169,10 @@ impl<'a> Caller<'a> {
     }
 }
 
-/// Two contents of a room that differ in most bytes.
-fn two_contents() -> Vec<Vec<u8>> {
-    let running = (0..ROOM).map(|n| (n * 7 % 251) as u8);
-    vec![vec![0xA5; ROOM], running.collect()]
+/// Two contents of a room of so many bytes that differ in most of them.
+fn two_contents(room: usize) -> Vec<Vec<u8>> {
+    let running = (0..room).map(|n| (n * 7 % 251) as u8);
+    vec![vec![0xA5; room], running.collect()]
 }
 
 /// Makes a call that reads this row at this place.
@@ -175,16 +195,16 @@ fn writing<A>(
     placed: Placed,
     old: &[u8],
     length: usize,
-    written: &[u8],
+    WrittenAt { place, bytes }: &WrittenAt,
     call: impl FnOnce(&mut [u8]) -> A,
 ) -> Writing<A> {
     room.lay(old);
     let answer = room.lend(placed, length, call);
-    let start = placed.span(length).start;
-    let span = start..start + written.len();
+    let start = room.span(placed, length).start + place;
+    let span = start..start + bytes.len();
     Writing {
         answer,
-        first_wrong: first_wrong(written, &room.bytes()[span.clone()]),
+        first_wrong: first_wrong(bytes, &room.bytes()[span.clone()]),
         rest_unchanged: room.rest_is(old, span),
     }
 }

@@ -55,6 +55,7 @@ impl Caller<'_> {
         (answer, written): (SlotRead, Vec<u8>),
         contents: Range<usize>,
     ) {
+        let written = written.into();
         let (input, output, state) = (&mut self.input, &mut self.output, &mut self.state);
         let ways = BOTH_PLACES.into_iter().cycle().zip(&self.old_contents);
         let chosen = ways.take(contents.end).skip(contents.start);

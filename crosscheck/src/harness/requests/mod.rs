@@ -1,6 +1,7 @@
 //! The calls as requests, one type for each call. A call that is added is one more of them.
 
 pub mod blocks;
+pub mod message_writing;
 pub mod messages;
 pub mod parts;
 pub mod slots;
