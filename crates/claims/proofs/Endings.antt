@@ -10,7 +10,7 @@ use Rattle.lists.proofs.Over.{over-nil}
 use Rattle.answers.specs.declared.Written.{Written}
 use Rattle.answers.specs.Numbers.{done, notOffered, wrongLength, noRoom}
 use Rattle.answers.specs.Written.{refused}
-use Rattle.answers.specs.Outcome.{Outcome, Wrote, writing}
+use Rattle.answers.specs.Outcome.{Outcome, WroteAt, Wrote, writing}
 use Rattle.answers.specs.Task.{Task, writeTask}
 use Rattle.answers.proofs.Determined as d
 use Rattle.answers.proofs.Task as t
@@ -36,7 +36,7 @@ pub data Ends {Answer Way : Type 0} (kind : Kind Answer Way) (outcome : Outcome 
   answers : (way : Way) → outcome ≡ kind .given way → Ends kind outcome
 
 module _ {Answer Way : Type 0} {kind : Kind Answer Way} {outcome : Outcome Answer} (ends : Ends kind outcome) where
-  counted : d.Counted (kind .count) outcome
+  pub counted : d.Counted (kind .count) outcome
   counted = goes ends
     where
       goes : Ends kind outcome → d.Counted (kind .count) outcome
@@ -47,6 +47,22 @@ module _ {Answer Way : Type 0} {kind : Kind Answer Way} {outcome : Outcome Answe
       → (answer ≡ answer') × (take (kind .count answer) new ≡ take (kind .count answer) new')
   determined wr wr' = d.determined (kind .count) outcome counted wr wr'
 
+  module _ {place : ℕ} {old new : List ℕ} {answer : Answer} (wr : WroteAt place outcome old new answer) where
+    pub refused-with : (kind .status answer ≡ done → ⊥) → (number : ℕ) × (answer ≡ kind .refused number) × (new ≡ old)
+    refused-with z = goes ends
+      where
+        goes : Ends kind outcome → (number : ℕ) × (answer ≡ kind .refused number) × (new ≡ old)
+        goes (refuses number h e) = (number, said wr e, held wr e ∙ over-nil place old)
+        goes (answers way e) = absurd (z (told wr (kind .status) e ∙ kind .is-done way))
+
+    pub given-in : kind .status answer ≡ done → (way : Way) × (outcome ≡ kind .given way)
+    given-in z = goes ends
+      where
+        goes : Ends kind outcome → (way : Way) × (outcome ≡ kind .given way)
+        goes (refuses number h e) = absurd (h (sym (told wr (kind .status) e ∙ kind .numbered number) ∙ z))
+        goes (answers way e) = (way, e)
+
+  -- at the buffer's start
   module _ {old new : List ℕ} {answer : Answer} (wr : Wrote outcome old new answer) where
     pub behind : drop (kind .count answer) new ≡ drop (kind .count answer) old
     behind = d.behind (kind .count) outcome counted wr
@@ -56,20 +72,6 @@ module _ {Answer Way : Type 0} {kind : Kind Answer Way} {outcome : Outcome Answe
     laid-in e =
         let bytes = ap (λ (o : Outcome Answer). o .bytes) e in
         record { full = sym (d.length-written (kind .count) outcome counted wr) ∙ ap length bytes; front = d.front (kind .count) outcome counted wr ∙ bytes; behind = behind }
-
-    pub refused-with : (kind .status answer ≡ done → ⊥) → (number : ℕ) × (answer ≡ kind .refused number) × (new ≡ old)
-    refused-with z = goes ends
-      where
-        goes : Ends kind outcome → (number : ℕ) × (answer ≡ kind .refused number) × (new ≡ old)
-        goes (refuses number h e) = (number, said wr e, held wr e ∙ over-nil 0 old)
-        goes (answers way e) = absurd (z (told wr (kind .status) e ∙ kind .is-done way))
-
-    pub given-in : kind .status answer ≡ done → (way : Way) × (outcome ≡ kind .given way)
-    given-in z = goes ends
-      where
-        goes : Ends kind outcome → (way : Way) × (outcome ≡ kind .given way)
-        goes (refuses number h e) = absurd (h (sym (told wr (kind .status) e ∙ kind .numbered number) ∙ z))
-        goes (answers way e) = (way, e)
 
 -- ---- the writers: of link words, and of datagrams as blocks and as slot bursts
 abbrev pub writers : Kind Written (List ℕ)

@@ -19,11 +19,11 @@ use Rattle.message_writer.specs.declared.Laid.{Laid}
 use Rattle.message_writer.specs.Message.{messageOf}
 use Rattle.message_writer.specs.Calls.{writeMessage}
 use Rattle.message_writer.specs.Several.{Message, isMessage, bytesOfAll, stepsOf}
-use Rattle.message_writer.proofs.Bytes.{length-message}
+use Rattle.message_writer.proofs.Bytes.{length-message, length-zeros}
 use Rattle.message_writer.proofs.Several.{message-good, is-typed, is-short, all-walk, all-found}
 use Rattle.message_writer.proofs.Ways as w
 use Rattle.claims.specs.Calls.{WroteMessage, ZeroFilled, LaidAll, laid-none, laid-next}
-use Rattle.claims.proofs.Laying.{status, count, length-zeros}
+use Rattle.claims.proofs.Laying.{status, count}
 use Rattle.claims.proofs.Writing.{stands, filled-in, zeros-laid}
 
 -- messages that were laid are good ones, and their bytes stand one behind the other

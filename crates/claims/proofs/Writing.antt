@@ -21,13 +21,14 @@ use Rattle.messages.proofs.Stepping.{found-exact}
 use Rattle.message_writer.specs.declared.Laid.{Laid}
 use Rattle.message_writer.specs.Message.{isNoType, longestBody, totalOf, messageOf, sourceAt}
 use Rattle.message_writer.specs.Calls.{laying, zeroFill}
-use Rattle.message_writer.proofs.Bytes.{length-message}
+use Rattle.message_writer.proofs.Bytes.{length-message, length-zeros}
 use Rattle.message_writer.proofs.Standing as standing
 use Rattle.message_writer.proofs.Types.{no-type, is-type, other-type}
 use Rattle.message_writer.proofs.Ways as w
 use Rattle.claims.specs.Lines.{Given}
 use Rattle.claims.specs.Calls.{WroteMessage, ZeroFilled, writeMessageLines, zeroFillLines, Stepped}
-use Rattle.claims.proofs.Laying.{status, count, length-zeros, message-ends, fill-ends, counted}
+use Rattle.claims.proofs.Endings.{counted}
+use Rattle.claims.proofs.Laying.{status, count, message-ends, fill-ends}
 
 -- ---- a message
 module _ (start type source : ℕ) (body old new : List ℕ) (answer : Laid) (wr : WroteMessage start type source body old new answer) where

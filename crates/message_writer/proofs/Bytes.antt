@@ -1,11 +1,11 @@
--- The bytes of a number, high byte first, and of a message, one by one.
+-- The bytes of a number, high byte first, of a message, one by one, and how many zeros there are.
 -- Assumes nothing.
 use mathlib.Core.Path.{_≡_, refl, ap, _∙_}
 use mathlib.Core.List.{List, [], _∷_, _++_}
 use Prim.Native.Nat.{ℕ, suc, _/_, _%_}
 use native.Mathlib.Nat.{div-one}
 use native.Mathlib.Omega.{arith}
-use lib.ListN.{length}
+use lib.ListN.{length, replicate, length-replicate}
 use Rattle.message_writer.specs.Message.{highByteFirst, totalOf, messageOf}
 
 pub two-bytes : (w : ℕ) → highByteFirst 2 w ≡ w / 256 % 256 ∷ w % 256 ∷ []
@@ -15,6 +15,9 @@ two-bytes w = rw div-one
 pub four-bytes : (w : ℕ) → highByteFirst 4 w ≡ w / 16777216 % 256 ∷ w / 65536 % 256 ∷ w / 256 % 256 ∷ w % 256 ∷ []
 unfolding highByteFirst
 four-bytes w = rw div-one
+
+pub length-zeros : (n : ℕ) → length (replicate {A = ℕ} n 0) ≡ n
+length-zeros n = length-replicate n 0
 
 -- ---- the three pieces of a message, and their lengths
 pub length-front : (type total : ℕ) → length (type ∷ highByteFirst 2 total) ≡ 3

@@ -4,12 +4,13 @@ use mathlib.Core.List.{List, [], _∷_}
 use Prim.Native.Nat.{ℕ, suc, _+_, _-_, _<_, _≤_}
 use native.Mathlib.Nat.{add-zero, sub-zero, add-assoc}
 use native.Mathlib.Omega.{arith}
-use lib.ListN.{length, replicate, length-replicate}
+use lib.ListN.{length, replicate}
 use borrow.Author.Needs.{needs}
 use Rattle.answers.proofs.Wrote.{refuses, lays}
 use Rattle.lists.specs.working.Laying.{Laying}
 use Rattle.lists.proofs.Over.{start, more, done}
 use Rattle.message_writer.specs.Calls.{laid}
+use Rattle.message_writer.proofs.Bytes.{length-zeros}
 use Rattle.message_writer.proofs.Ways.{fill-past, fill-done}
 use Rattle.message_writer.proofs.zero_fill.Statement.{statement}
 use Rattle.message_writer.proofs.zero_fill.Tie as tie
@@ -22,9 +23,6 @@ more-left count i h = let n : count - i ≡ suc (count - (i + 1)) = omega arith 
 
 none-left : (count i : ℕ) → count ≤ i → zeros (count - i) ≡ []
 none-left count i h = let n : count - i ≡ 0 = omega arith in ap zeros n
-
-length-zeros : (n : ℕ) → length (zeros n) ≡ n
-length-zeros n = length-replicate n 0
 
 -- at the start all is left
 all-left : (old : List ℕ) (at count i : ℕ) → i ≡ 0 → at + count ≡ length old → Laying old at (zeros count) old (at + i) (zeros (count - i))
