@@ -143,7 +143,8 @@ static void measure_parts(uint32_t link, size_t burst) {
     measure_asking(HEAD, 2, 1);
     measure_asking(WORD, 7, 1);
     measure_asking(WORD, 8, 1);
-    measure_asking(0, 1, 1);
+    measure_asking(0, 8, 1);
+    measure_asking(0, 9, 1);
     measure_asking(0, 1, 2);
     measure_asking(burst - 1, 1, 2);
     decklewren_write_word(8, bits + WORD, DECKLEWREN_WORD_BITS);

@@ -81,7 +81,7 @@ static void put_start(void) {
 
 /* What the fields are, below the bursts. */
 static void put_notes(double y) {
-    put_text(LEFT, y, "out", "Numbers in the fields are bits. The training is 27 symbols, each sent as two equal bits; it must agree exactly.");
+    put_text(LEFT, y, "out", "Numbers in the fields are bits. The training is 27 symbols of two equal bits; up to eight bits may be wrong.");
     put_text(LEFT, y + 22, "out", "The link word names the link; up to seven of its bits may be wrong.");
     put_text(LEFT, y + 44, "out", "The block is the datagram and its check. Coded and scrambled it is the image; one bit of that may be wrong.");
 }

@@ -21,14 +21,14 @@ static decklewren_parts *take_ended(void) {
     return &states[1 - filling];
 }
 
-/* What the radio plays: a burst of link 6 as it should be, with one bit wrong, too long, and then as it should be. The last one comes into
-   the state that was refused. */
-enum { FIFO = 16, BITS = DECKLEWREN_BURST_6, TOO_LONG = 2000, WRONG = 500 };
+/* What the radio plays: a burst of link 6 as it should be, with one bit of its block wrong, with one of its training, too long, and
+   then as it should be. The last one comes into the state that was refused. `wrong` is the place of the wrong bit. */
+enum { FIFO = 16, BITS = DECKLEWREN_BURST_6, TOO_LONG = 2000, NOWHERE = TOO_LONG };
 static const struct {
     const char *what;
-    size_t length;
-    uint8_t damage;
-} plays[] = {{"good", BITS, 0}, {"one bit wrong", BITS, 1}, {"too long", TOO_LONG, 0}, {"the next", BITS, 0}, {"the one behind it", BITS, 0}};
+    size_t length, wrong;
+} plays[] = {{"good", BITS, NOWHERE},         {"one bit wrong", BITS, 500}, {"one of the training", BITS, 20},
+             {"too long", TOO_LONG, NOWHERE}, {"the next", BITS, NOWHERE},  {"the one behind it", BITS, NOWHERE}};
 enum { PLAYS = sizeof plays / sizeof *plays };
 static uint8_t burst[TOO_LONG];
 
@@ -36,11 +36,11 @@ static uint8_t burst[TOO_LONG];
 static int radio(void) {
     static size_t play, at, interrupts;
     if (play == PLAYS) return 0;
-    size_t left = plays[play].length - at, held = interrupts++ * 7 % (FIFO + 1);
+    size_t left = plays[play].length - at, held = interrupts++ * 7 % (FIFO + 1), wrong = plays[play].wrong;
     uint8_t fifo[FIFO];
     if (held > left) held = left;
     memcpy(fifo, burst + at, held);
-    if (at <= WRONG && WRONG < at + held) fifo[WRONG - at] ^= plays[play].damage;
+    if (at <= wrong && wrong < at + held) fifo[wrong - at] ^= 1;
     at = held == left ? 0 : at + held;
     play += held == left;
     interrupt(fifo, held, held == left);
@@ -50,7 +50,8 @@ static int radio(void) {
 static void show(const char *what, decklewren_slot slot, const uint8_t *datagram) {
     printf("%s: status %u", what, (unsigned)slot.status);
     if (slot.status == DECKLEWREN_DONE) {
-        printf(", link %u, %u wrong, \"%.*s\"", (unsigned)slot.link, (unsigned)slot.wrong, (int)slot.count, (const char *)datagram);
+        printf(", link %u, %u wrong, %u in the training", (unsigned)slot.link, (unsigned)slot.wrong, (unsigned)slot.training_wrong);
+        printf(", \"%.*s\"", (int)slot.count, (const char *)datagram);
     }
     printf("\n");
 }

@@ -27,10 +27,18 @@ static const sizes links[] = {DECKLEWREN_LINKS(SIZES)};
 static const sizes slot_links[] = {DECKLEWREN_SLOT_LINKS(BURST)};
 enum { LINKS = sizeof links / sizeof *links, SLOT_LINKS = sizeof slot_links / sizeof *slot_links };
 
-/* Where each field of a step and of what laying answers stands and how wide it is; check_steps and check_messages hold the archive to
-   it. Held while compiling: behind a shorter struct the archive would write over what is not its own. */
+/* Where each field of what reading a slot burst, a step and laying answer stands and how wide it is; check_slot_answers, check_steps
+   and check_messages hold the archive to it. Held while compiling: behind a shorter struct the archive would write over what is not
+   its own. */
 #define FIELD(type, name, place, size) \
     static_assert(offsetof(type, name) == place && sizeof(((type *)0)->name) == size, #type " " #name);
+FIELD(decklewren_slot, status, 0, 4)
+FIELD(decklewren_slot, count, 4, 4)
+FIELD(decklewren_slot, wrong, 8, 4)
+FIELD(decklewren_slot, link, 12, 4)
+FIELD(decklewren_slot, word_wrong, 16, 4)
+FIELD(decklewren_slot, training_wrong, 20, 4)
+static_assert(sizeof(decklewren_slot) == 24, "bytes of a slot burst's answer");
 FIELD(decklewren_step, status, 0, 4)
 FIELD(decklewren_step, start, 8, 8)
 FIELD(decklewren_step, length, 16, 8)
@@ -198,6 +206,44 @@ static void check_training(void) {
     }
 }
 
+/* Its fields, of a burst that was read so, whole or by parts, with so many wrong bits of the training. */
+static void expect_slot(const char *read, unsigned wrong, decklewren_slot expected, decklewren_slot got) {
+    const struct {
+        const char *name;
+        uint32_t expected, got;
+    } fields[] = {
+        {"status", expected.status, got.status},
+        {"count", expected.count, got.count},
+        {"wrong", expected.wrong, got.wrong},
+        {"link", expected.link, got.link},
+        {"word_wrong", expected.word_wrong, got.word_wrong},
+        {"training_wrong", expected.training_wrong, got.training_wrong},
+    };
+    for (size_t n = 0; n < sizeof fields / sizeof fields[0]; n++) {
+        char what[80];
+        snprintf(what, sizeof what, "%s, read %s, wrong bits of the training:", fields[n].name, read);
+        expect(what, wrong, fields[n].expected, fields[n].got);
+    }
+}
+
+/* A burst of link 6 with one wrong bit in its block, seven in its link word and none to nine in its training, read whole and by parts:
+   each number in its own field, and with nine refusal 5 and 0 in all others. */
+static void check_slot_answers(void) {
+    static decklewren_parts parts;
+    const decklewren_slot refused = {DECKLEWREN_NO_TRAINING, 0, 0, 0, 0, 0};
+    decklewren_write_slot(6, datagram, 0, bits, sizeof bits);
+    bits[DECKLEWREN_BURST_6 - 1] ^= 1;
+    for (size_t place = 0; place < 7; place++) bits[DECKLEWREN_TRAINING_BITS + place] ^= 1;
+    for (uint32_t wrong = 0; wrong <= 9; wrong++) {
+        const decklewren_slot answered = {DECKLEWREN_DONE, DECKLEWREN_HELD_6, 1, 6, 7, wrong};
+        const decklewren_slot expected = wrong <= 8 ? answered : refused;
+        decklewren_parts_take(&parts, bits, DECKLEWREN_BURST_6);
+        expect_slot("whole", wrong, expected, decklewren_read_slot(bits, DECKLEWREN_BURST_6, datagram, DECKLEWREN_HELD_6));
+        expect_slot("by parts", wrong, expected, decklewren_parts_read(&parts, datagram, DECKLEWREN_HELD_6));
+        bits[wrong] ^= 1;
+    }
+}
+
 /* A state has the sizes that the archive is lent, and begins fresh. A burst that comes in two parts, with an empty one between them,
    is read and leaves it fresh. */
 static void check_parts(void) {
@@ -277,6 +323,7 @@ int main(void) {
     check_most();
     check_sizes();
     check_training();
+    check_slot_answers();
     check_parts();
     check_words();
     check_version();

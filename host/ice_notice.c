@@ -77,7 +77,8 @@ static size_t read_burst(const uint8_t *burst, size_t burst_len, uint8_t *datagr
     decklewren_slot slot = decklewren_read_slot(burst, burst_len, datagram, HELD);
     printf("read at sea: status %u, %u bytes, %u wrong in the block, ", (unsigned)slot.status, (unsigned)slot.count,
            (unsigned)slot.wrong);
-    printf("link %u, %u wrong in its word\n", (unsigned)slot.link, (unsigned)slot.word_wrong);
+    printf("link %u, %u wrong in its word, ", (unsigned)slot.link, (unsigned)slot.word_wrong);
+    printf("%u in the training\n", (unsigned)slot.training_wrong);
     return slot.count;
 }
 

@@ -1,5 +1,6 @@
-/* What becomes of a burst that is damaged beyond what is mended: 10,000 slot bursts of link 6 with random datagrams, each with three
-   random bits inverted. Counts those that are answered, and of these the ones with another datagram. */
+/* What becomes of bursts with three wrong bits, more than is mended where two or three of them are in the block: 10,000 slot bursts of
+   link 6 with random datagrams, each with three random bits inverted. Counts those that are answered, and of these the ones with
+   another datagram. */
 #include "decklewren.h"
 #include <stdio.h>
 #include <string.h>

@@ -82,6 +82,6 @@ int run_read_slot(const request *asked) {
         return refuse_slot(slot.status, &bits);
     }
     put_datagram(datagram, slot.count, asked->given & HEX);
-    return end_well("count=%u wrong=%u link=%u word_wrong=%u\n", (unsigned)slot.count, (unsigned)slot.wrong, (unsigned)slot.link,
-                    (unsigned)slot.word_wrong);
+    return end_well("count=%u wrong=%u link=%u word_wrong=%u training_wrong=%u\n", (unsigned)slot.count, (unsigned)slot.wrong,
+                    (unsigned)slot.link, (unsigned)slot.word_wrong, (unsigned)slot.training_wrong);
 }

@@ -44,24 +44,24 @@ extern "C" {
 
 /* The version, here and nowhere else. MAJOR rises where a program must change or be compiled again (a call, a struct or a name that
    was there has changed or is gone), MINOR where something is new or a call answers otherwise, PATCH with every other change. */
-#define DECKLEWREN_VERSION_MAJOR 1
-#define DECKLEWREN_VERSION_MINOR 2
+#define DECKLEWREN_VERSION_MAJOR 2
+#define DECKLEWREN_VERSION_MINOR 0
 #define DECKLEWREN_VERSION_PATCH 0
 
-/* The same as text: "1.2.0" is a literal, made of the three numbers. */
+/* The same as text: "2.0.0" is a literal, made of the three numbers. */
 #define DECKLEWREN_TEXT_OF(major, minor, patch) #major "." #minor "." #patch
 #define DECKLEWREN_TEXT(major, minor, patch) DECKLEWREN_TEXT_OF(major, minor, patch)
 #define DECKLEWREN_VERSION DECKLEWREN_TEXT(DECKLEWREN_VERSION_MAJOR, DECKLEWREN_VERSION_MINOR, DECKLEWREN_VERSION_PATCH)
 
 /* The numbers a caller gets back as status (document 01, the table of that name; of document 02, 10 is K1's, 9, 11 and 12 are K3's,
-   and 13, 14 and the start of 8 are K6's): X(name, number, what it says). */
+   13, 14 and the start of 8 are K6's, and the nine bits of 5 are K7's): X(name, number, what it says). */
 #define DECKLEWREN_STATUSES(X)                                                                                                       \
     X(DECKLEWREN_DONE, 0, "done")                                                                                                    \
     X(DECKLEWREN_NOT_OFFERED, 1, "link not offered; number above 63 for a link word; slot burst not of link 5, 6, 7")                \
     X(DECKLEWREN_WRONG_LENGTH, 2, "datagram longer than the link holds; link word, block or slot burst of the wrong length")         \
     X(DECKLEWREN_NO_ROOM, 3, "output buffer too short")                                                                              \
     X(DECKLEWREN_NO_BIT, 4, "a byte neither 0 nor 1")                                                                                \
-    X(DECKLEWREN_NO_TRAINING, 5, "training differs")                                                                                 \
+    X(DECKLEWREN_NO_TRAINING, 5, "training differs in nine or more bits")                                                            \
     X(DECKLEWREN_NO_WORD, 6, "no code word within seven")                                                                            \
     X(DECKLEWREN_NO_BLOCK, 7, "no valid block's image within one")                                                                   \
     X(DECKLEWREN_PAST_END, 8, "position or start past the end")                                                                      \
@@ -209,14 +209,15 @@ typedef struct {
     uint32_t wrong;
 } decklewren_block;
 
-/* What reading a slot burst answers: count and wrong as reading its block does, the link that its link word names, and
-   word_wrong, the number of places, 0 to 7, where the link word differs. */
+/* What reading a slot burst answers: count and wrong as reading its block does, the link that its link word names, word_wrong, the
+   number of places, 0 to 7, where the link word differs, and training_wrong, how many of the training's 54 bits differ, 0 to 8. */
 typedef struct {
     uint32_t status;
     uint32_t count;
     uint32_t wrong;
     uint32_t link;
     uint32_t word_wrong;
+    uint32_t training_wrong;
 } decklewren_slot;
 
 /* A slot burst that comes in parts, the caller's to keep: how many bytes came, counted up to 1505, and the first 1504 of them. It is
@@ -288,16 +289,17 @@ decklewren_block decklewren_read_block(uint32_t link, const uint8_t *bits, size_
    Proved:   these bits are the datagram's burst; reading them answers the link and the filled datagram, with nothing wrong */
 decklewren_written decklewren_write_slot(uint32_t link, const uint8_t *datagram, size_t datagram_len, uint8_t *out, size_t out_len);
 
-/* Reads a slot burst, with at most seven bits of its link word wrong and at most one of its block.
-   Returns:  status, count, how many places of the block are wrong, the link, and how many places of its word are
+/* Reads a slot burst, with at most eight bits of its training wrong (document 02, K7), seven of its link word and one of its block.
+   Returns:  status, count, how many places of the block are wrong, the link, and how many of its word and of the training are
    In:       bits, 86 + N bytes 0 or 1, N being that of the link which the link word names: 480, 992 or 1504
    Out:      the datagram, all the bytes that the link holds (32, 80, 128), at the start of out; bytes behind stay
-   Refusals: 2 bits_len below 86, 4 a byte neither 0 nor 1 in these 86, 5 training differs, 6 no code word within seven,
-             1 link not 5, 6, 7, 2 the rest is not N long, 3 out_len below the bytes that the link holds,
+   Refusals: 2 bits_len below 86, 4 a byte neither 0 nor 1 in these 86, 5 training differs in nine or more bits, 6 no code word
+             within seven, 1 link not 5, 6, 7, 2 the rest is not N long, 3 out_len below the bytes that the link holds,
              4 a byte neither 0 nor 1 in the rest, 7 no valid block's image within one place of the rest
-   Proved:   a row of bits, with room in out, is answered exactly when its training is right, the word of link 5, 6 or 7 is within
-             seven places and the image of a block of that link within one place of the rest; only one link and block are so near,
-             and they are the answer. So seven wrong bits of the word and one of the block are always mended */
+   Proved:   a row of bits, with room in out, is answered exactly when its first 54 are within eight places of the training, the word
+             of link 5, 6 or 7 is within seven of the next 32 and the image of a block of that link within one of the rest; only one
+             link and block are so near, and they are the answer, with the true number of wrong places in each of the three. So eight
+             wrong bits of the training, seven of the word and one of the block are always mended */
 decklewren_slot decklewren_read_slot(const uint8_t *bits, size_t bits_len, uint8_t *out, size_t out_len);
 
 /* Takes the next part of a slot burst into a state (document 02, K2).

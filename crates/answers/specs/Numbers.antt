@@ -20,7 +20,7 @@ noRoom = 3
 abbrev pub noBit : ℕ
 noBit = 4
 
--- training differs
+-- training differs in nine or more bits (document 02, K7)
 abbrev pub noTraining : ℕ
 noTraining = 5
 

@@ -13,10 +13,10 @@ use Rattle.bits.specs.Row.{differ, differences}
 use Rattle.bits.proofs.Bits.{bit-low}
 use Rattle.bits.proofs.Flip.{differ-self}
 
-differ-same : (x y : ℕ) → x ≡ y → differ (isOne x) (isOne y) ≡ 0
+pub differ-same : (x y : ℕ) → x ≡ y → differ (isOne x) (isOne y) ≡ 0
 differ-same x y e = rw e (differ-self (isOne y))
 
-differ-other : (x y : ℕ) → x ≤ 1 → y ≤ 1 → (x ≡ y → ⊥) → differ (isOne x) (isOne y) ≡ 1
+pub differ-other : (x y : ℕ) → x ≤ 1 → y ≤ 1 → (x ≡ y → ⊥) → differ (isOne x) (isOne y) ≡ 1
 differ-other zero zero h l ne = absurd (ne refl)
 differ-other zero (suc zero) h l ne = refl
 differ-other (suc zero) zero h l ne = refl
@@ -30,7 +30,7 @@ abbrev pub leftAt : List ℕ → List ℕ → ℕ → ℕ
 leftAt a b i = differences (map isOne (drop i a)) (map isOne (drop i b))
 
 module _ (a b : List ℕ) (long : length a ≡ length b) where
-  left-more : (i : ℕ) → i < length a → leftAt a b i ≡ differ (isOne (getD a i 0)) (isOne (getD b i 0)) + leftAt a b (i + 1)
+  pub left-more : (i : ℕ) → i < length a → leftAt a b i ≡ differ (isOne (getD a i 0)) (isOne (getD b i 0)) + leftAt a b (i + 1)
   unfolding differences
   left-more i h = rw (drop-cons a i 0 h, drop-cons b i 0 (omega arith), add-one)
 

@@ -43,7 +43,7 @@ length-differences (x ∷ xs) [] = zero-le
 length-differences (x ∷ xs) (y ∷ ys) = let h = length-differences xs ys in omega arith
 
 -- and no more places differ than both have
-differ-le : (x y : Bool) → differ x y ≤ 1
+pub differ-le : (x y : Bool) → differ x y ≤ 1
 differ-le true true = omega arith
 differ-le true false = omega arith
 differ-le false true = omega arith

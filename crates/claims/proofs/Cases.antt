@@ -5,28 +5,24 @@ use mathlib.Core.Bool.{Bool, true}
 use mathlib.Core.List.{List, [], _∷_, _++_, map, append-nil}
 use Prim.Native.Nat.{ℕ, _+_, _*_, _<_, _≤_}
 use native.Mathlib.Omega.{arith}
-use lib.Dec.{ltb, ltb→lt, lit<, lit≤}
+use lib.Dec.{lit<, lit≤}
 use lib.ListN.{length, replicate, length-map, length-append}
 use lib.Seq.{take-all, take-at}
-use Rattle.answers.specs.Numbers.{done, notOffered, wrongLength, noRoom, noWord, pastEnd, noType, longBody}
+use Rattle.answers.specs.Numbers.{done, notOffered, wrongLength, noRoom, pastEnd, noType, longBody}
 use Rattle.answers.specs.Outcome.{Outcome, refusal}
 use Rattle.answers.proofs.Task.{write-unoffered, write-long}
 use Rattle.lists.specs.Every.{every}
 use Rattle.lists.specs.Over.{over}
-use Rattle.lists.proofs.Line.{line}
 use Rattle.lists.proofs.Over.{over-all}
 use Rattle.lists.proofs.Parts.{map-take}
 use Rattle.bits.specs.Bits.{byte}
 use Rattle.bits.specs.Row.{highFirst, differences}
-use Rattle.bits.proofs.Differences.{differences-self}
-use Rattle.blocks.specs.Block.{blockOf, imageOf}
+use Rattle.blocks.specs.Block.{blockOf}
 use Rattle.blocks.specs.Calls.{blockTask, writeBlock}
-use Rattle.blocks.proofs.Blocks.{block-valid}
 use Rattle.blocks.proofs.Calls.{read-length}
 use Rattle.links.specs.Patterns.{patterns, tails, clocksIn, flagsAt, total, patternOf, tailOf}
 use Rattle.links.specs.Rows.{rows, placeIn, offered, rowOf}
 use Rattle.links.specs.Sizes.{openBits, bytesHeld, passedOn, tailBits, imageLength}
-use Rattle.links.proofs.Good.{good}
 use Rattle.messages.specs.Step.{zerosAt, messageAt, stepAt, stepMessage}
 use Rattle.message_writer.specs.Message.{highByteFirst, messageOf}
 use Rattle.message_writer.specs.Calls.{laying, writeMessage, zeroFill, refusal as laid-refused}
@@ -34,13 +30,13 @@ use Rattle.message_writer.proofs.Ways.{write-long as write-long-body}
 use Rattle.slots.specs.Burst.{doubled, symbols, training, headLength, headPart, blockPart, isSlotLink, headOf, burstOf}
 use Rattle.slots.specs.declared.Slot.{Slot}
 use Rattle.slots.specs.Near.{Near}
-use Rattle.slots.specs.Head.{refusedHead, trainingWrong, readHead}
+use Rattle.slots.specs.Head.{refusedHead, readHead}
 use Rattle.slots.specs.Calls.{slotTask, writeSlot, both, readSlot, refused as slot-refused}
 use Rattle.slots.proofs.Answered.{rest-joined, burst-answered}
-use Rattle.slots.proofs.Calls.{word-no-slot, head-word, read-refused}
-use Rattle.slots.proofs.HeadLaid.{length-head}
+use Rattle.slots.proofs.Calls.{word-no-slot, head-word}
 use Rattle.slots.proofs.Links.{slot-offered}
-use Rattle.slots.proofs.Parts.{near-head, block-of}
+use Rattle.slots.proofs.Parts.{length-head-bits, near-head, block-of}
+use Rattle.slots.proofs.WaysOfReading.{head-refuses}
 use Rattle.slots.proofs.Writing.{long-burst}
 use Rattle.parts.specs.State.{longest, stop, state, blank, fresh, taken, heard}
 use Rattle.parts.proofs.Growing.{cut}
@@ -48,25 +44,10 @@ use Rattle.parts.proofs.Hearing.{longest-7, short, heard-long}
 use Rattle.parts.proofs.Holding.{fresh-holds}
 use Rattle.turbo.proofs.Cases.{p7-y0, p7-y1, p8, p9}
 use Rattle.words.specs.Word.{generator, withRows, wordOf, wordBits}
-use Rattle.words.specs.Calls.{readWord, refused, found}
-use Rattle.words.proofs.Exact.{near-found, far-refused}
-use Rattle.claims.specs.Cases.{firstInverted, inverted, Cases}
-
-seven-wrong : readWord (map byte (firstInverted 7 (wordBits 5))) ≡ found 5 7
-unfolding highFirst generator withRows wordOf differences
-seven-wrong = near-found (firstInverted 7 (wordBits 5)) refl 5 7 (record { known = lit< tt; count = refl; within = lit≤ tt })
-
--- every word is eight or more from the word of 5 with its first eight bits inverted
-abbrev beyond : ℕ → Bool
-beyond n = ltb 7 (differences (wordBits n) (firstInverted 8 (wordBits 5)))
-
-eight-wrong : readWord (map byte (firstInverted 8 (wordBits 5))) ≡ refused noWord
-unfolding highFirst generator withRows wordOf differences
-eight-wrong = far-refused (firstInverted 8 (wordBits 5)) refl (λ n h. ltb→lt 7 (differences (wordBits n) (firstInverted 8 (wordBits 5))) (line 64 beyond tt n h))
-
-nine-wrong : readWord (map byte (inverted 9 (wordBits 0) (wordBits 1))) ≡ found 1 7
-unfolding highFirst generator withRows wordOf differences
-nine-wrong = near-found (inverted 9 (wordBits 0) (wordBits 1)) refl 1 7 (record { known = lit< tt; count = refl; within = lit≤ tt })
+use Rattle.words.specs.Calls.{found}
+use Rattle.words.proofs.Exact.{near-found}
+use Rattle.claims.specs.Cases.{Cases}
+use Rattle.claims.proofs.Noisy.{seven-wrong, eight-wrong, nine-wrong, good-behind, noisy-answered, far-training, far-word, other-link, no-bit-first}
 
 held-by-12 : bytesHeld (rowOf 12) ≡ 117
 unfolding rows placeIn rowOf
@@ -128,14 +109,7 @@ module _ (datagram : List ℕ) (fits : length datagram ≤ 128) where
   -- with a count of 1,504 it is a good one
   near-7 : Near (burstOf 7 datagram) 7 0 (blockOf (rowOf 7) datagram)
   unfolding isSlotLink burstOf
-  near-7 =
-      let rest = imageOf (rowOf 7) (blockOf (rowOf 7) datagram) in
-      let same = ap (differences rest) (block-of 7 rest) ∙ differences-self rest in
-      record {
-        head = near-head 7 rest refl;
-        size = sym (length-map (headOf 7 ++ rest) byte) ∙ long-7 ∙ sym longest-7;
-        block = record { right = block-valid (rowOf 7) (good 7 (slot-offered 7 refl)) datagram fits-7; within = omega (arith, same) };
-      }
+  near-7 = good-behind 7 refl datagram fits-7 (headOf 7) (length-head-bits 7) (near-head 7 _ refl)
 
   read-7 : (room : ℕ) → 128 ≤ room → readSlot (heard (state longest burst)) room .answer .status ≡ done
   unfolding rows placeIn rowOf
@@ -149,7 +123,7 @@ module _ (datagram : List ℕ) (fits : length datagram ≤ 128) where
   unfolding burstOf
   head-7 =
       sym (map-take byte headLength (burstOf 7 datagram))
-      ∙ ap (map byte) (take-at (headOf 7) _ headLength (sym (length-map (headOf 7) byte) ∙ length-head 7) ∙ sym (append-nil (headOf 7)))
+      ∙ ap (map byte) (take-at (headOf 7) _ headLength (length-head-bits 7) ∙ sym (append-nil (headOf 7)))
 
   longer : (room : ℕ) → readSlot (heard (state stop burst)) room ≡ slot-refused wrongLength
   longer room =
@@ -181,14 +155,14 @@ module _ (rest : List Bool) where
   came-4 = map byte (headOf 4 ++ rest)
 
   head-4 : readHead came-4 ≡ refusedHead notOffered
-  unfolding highFirst doubled symbols training generator withRows wordOf headOf every differences trainingWrong isSlotLink
+  unfolding highFirst doubled symbols training generator withRows wordOf headOf every differences isSlotLink
   head-4 =
       let long : headLength ≤ length came-4 = omega (arith, length-map (headOf 4 ++ rest) byte, length-append (headOf 4) rest) in
       let word = near-found (wordBits 4) refl 4 0 (record { known = lit< tt; count = refl; within = lit≤ tt }) in
-      head-word came-4 long refl word refl refl ∙ word-no-slot (found 4 0) 0 refl refl
+      head-word came-4 long refl word refl (lit≤ tt) ∙ word-no-slot (found 4 0) 0 refl refl
 
   no-slot-read : (room : ℕ) → readSlot came-4 room ≡ slot-refused notOffered
-  no-slot-read room = read-refused came-4 room (rw head-4 (λ z. omega (arith, z))) ∙ rw head-4
+  no-slot-read room = head-refuses came-4 room notOffered (λ z. omega (arith, z)) head-4
 
 -- ---- K6
 laid-in : (writeMessage 3 93 0x01020304 (111 ∷ 107 ∷ []) 20 ≡ laying (93 ∷ 0 ∷ 9 ∷ 1 ∷ 2 ∷ 3 ∷ 4 ∷ 111 ∷ 107 ∷ [])) × (writeMessage 0 74 1 [] 7 ≡ laying (74 ∷ 0 ∷ 7 ∷ 0 ∷ 0 ∷ 0 ∷ 1 ∷ []))
@@ -215,4 +189,4 @@ zero-filled = (refl, refl, refl)
 
 pub cases : Cases
 unfolding generator withRows wordOf every zerosAt messageAt stepAt stepMessage
-cases = record { P1 = refl; P2 = refl; P3 = refl; P4 = seven-wrong; P5 = eight-wrong; P6 = nine-wrong; P7 = (p7-y0, p7-y1); P8 = p8; P9 = p9; P10 = (held-by-12, too-long); P11 = (refl, refl, refl); P12 = (refl, refl, refl); K1-spoilt = (refl, refl, refl); K1-ends = (refl, refl, refl, refl); K1-passed = (refl, refl, refl); K2-empty = empty; K2-counts = counts; K2-raw = raw; K2-longer = λ datagram fits x more. (kept datagram fits x more, longer datagram fits, read-7 datagram fits); K3-order = (refl, refl, refl); K3-missing = (refl, refl); K4-lengths = lengths-4; K4-held = held-by-4; K4-blocks-only = (offered-4, no-slot-written, no-slot-read); K6-laid = laid-in; K6-start = starts; K6-longest = longest-message; K6-order = too-long-first; K6-fill = zero-filled; short-7 = λ rest room size. other-7 rest room (λ e. omega (arith, size, e)); burst-lengths = rw (images .0, images .1, images .2) }
+cases = record { P1 = refl; P2 = refl; P3 = refl; P4 = seven-wrong; P5 = eight-wrong; P6 = nine-wrong; P7 = (p7-y0, p7-y1); P8 = p8; P9 = p9; P10 = (held-by-12, too-long); P11 = (refl, refl, refl); P12 = (refl, refl, refl); K1-spoilt = (refl, refl, refl); K1-ends = (refl, refl, refl, refl); K1-passed = (refl, refl, refl); K2-empty = empty; K2-counts = counts; K2-raw = raw; K2-longer = λ datagram fits x more. (kept datagram fits x more, longer datagram fits, read-7 datagram fits); K3-order = (refl, refl, refl); K3-missing = (refl, refl); K4-lengths = lengths-4; K4-held = held-by-4; K4-blocks-only = (offered-4, no-slot-written, no-slot-read); K6-laid = laid-in; K6-start = starts; K6-longest = longest-message; K6-order = too-long-first; K6-fill = zero-filled; K7-answered = noisy-answered; K7-order = λ rest room. (far-training rest room .0, far-training rest room .1, far-word rest room, other-link rest room, no-bit-first rest room); short-7 = λ rest room size. other-7 rest room (λ e. omega (arith, size, e)); burst-lengths = rw (images .0, images .1, images .2) }

@@ -173,8 +173,12 @@ demand3 = record {
   slot-exact = slots.exact;
   slot-only-one = slots.only-one;
   slot-answered = λ came link wordWrong u n old new answer room wr. slots.answered came old new answer wr link wordWrong u n room;
+  training-counted = slots.training-counted;
+  training-refused = slots.training-refused;
   parts-mended = λ link datagram old new written bytes wr z came size trained word block old' new' answer room c.
       slots.mended link datagram old new written bytes wr z came size trained word block old' new' answer room (parts.read _ old' new' answer c);
   parts-exact = λ came old new answer c. slots.exact came old new answer (parts.read _ old new answer c);
   parts-answered = λ came link wordWrong u n old new answer room c. slots.answered came old new answer (parts.read _ old new answer c) link wordWrong u n room;
+  parts-training-counted = λ burst old new answer c. slots.training-counted burst old new answer (parts.read burst old new answer c);
+  parts-training-refused = λ burst old new answer c. slots.training-refused burst old new answer (parts.read burst old new answer c);
 }

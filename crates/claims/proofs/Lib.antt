@@ -5,6 +5,7 @@ pub mod Endings
 pub mod Laying
 pub mod Lines
 pub mod Messages
+pub mod Noisy
 pub mod Numbers
 pub mod Parts
 pub mod Several

@@ -39,7 +39,7 @@ abbrev slot-status : Slot → ℕ
 slot-status answer = answer .status
 
 -- a test that came out true did not come out false
-true-passes : {b : Bool} → b ≡ true → b ≡ false → ⊥
+pub true-passes : {b : Bool} → b ≡ true → b ≡ false → ⊥
 true-passes t f = true≢false (sym t ∙ f)
 
 -- ---- link words
@@ -87,7 +87,7 @@ module _ (burst old new : List ℕ) (answer : Slot) (wr : calls.ReadSlot burst o
   -- the lines of the training are passed, and those of the word
   past-training : rs.Trained burst → (behind : Lines) → Given behind (answer .status) → Given (calls.trainingLines burst behind) (answer .status)
   unfolding Given
-  past-training t behind g = inr (λ k. omega (arith, t .long, k), inr (true-passes (t .bits), inr (λ k. k (t .same), g)))
+  past-training t behind g = inr (λ k. omega (arith, t .long, k), inr (true-passes (t .bits), inr (λ k. omega (arith, t .within, k), g)))
 
   past-word : (link wrong : ℕ) → rs.Named burst link wrong → Given (line notOffered (isSlotLink link ≡ false) (calls.restLines link (blockPart burst) (length old))) (answer .status)
       → Given (calls.readSlotLines burst (length old)) (answer .status)

@@ -4,7 +4,7 @@ use mathlib.Core.Path.{_≡_}
 use mathlib.Core.Logic.{_⊎_}
 use mathlib.Core.Bool.{Bool, false}
 use mathlib.Core.List.{List, [], _∷_, map}
-use Prim.Native.Nat.{ℕ, _+_, _<_}
+use Prim.Native.Nat.{ℕ, _+_, _<_, _≤_}
 use lib.ListN.{length, take, drop}
 use Rattle.answers.specs.declared.Written.{Written}
 use Rattle.answers.specs.Numbers.{done, notOffered, wrongLength, noRoom, noBit, noTraining, noWord, noBlock, pastEnd, smallLength, brokenFill, fewLeft, messagePastEnd, noType, longBody}
@@ -132,12 +132,12 @@ readBlockLines link bits room =
     line notOffered (offered link ≡ false)
     (restLines link bits room)
 
--- fewer than 86 bits; a non-bit in those 86; training differs
+-- fewer than 86 bits; a non-bit in those 86; training differs, by document 02's K7 in nine bits or more
 abbrev pub trainingLines : List ℕ → Lines → Lines
 trainingLines burst behind =
     line wrongLength (length burst < headLength)
     (line noBit (allBits (headPart burst) ≡ false)
-    (line noTraining (map isOne (trainingPart burst) ≡ training → ⊥)
+    (line noTraining (9 ≤ differences training (map isOne (trainingPart burst)))
     behind))
 
 -- the link that the word of a burst names
@@ -200,10 +200,11 @@ pub record BlockAnswer (datagram : List ℕ) (wrong : ℕ) (old new : List ℕ) 
   pub laid : Laid datagram (answer .count) old new
   pub wrongs : answer .wrong ≡ wrong
 
--- a slot burst's, with the link and the number of wrong places of its word
-pub record SlotAnswer (datagram : List ℕ) (wrong link wordWrong : ℕ) (old new : List ℕ) (answer : Slot) : Type 0 where
+-- a slot burst's, with the link and the numbers of wrong places of its word and of its training
+pub record SlotAnswer (datagram : List ℕ) (wrong link wordWrong trainingWrong : ℕ) (old new : List ℕ) (answer : Slot) : Type 0 where
   pub status : answer .status ≡ done
   pub laid : Laid datagram (answer .count) old new
   pub wrongs : answer .wrong ≡ wrong
   pub links : answer .link ≡ link
   pub word-wrongs : answer .«word_wrong» ≡ wordWrong
+  pub training-wrongs : answer .«training_wrong» ≡ trainingWrong

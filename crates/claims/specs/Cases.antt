@@ -4,9 +4,10 @@ use mathlib.Core.Bool.{Bool, true, false, not}
 use mathlib.Core.List.{List, [], _∷_, _++_, map}
 use Prim.Native.Nat.{ℕ, zero, suc, _+_, _*_, _≤_}
 use lib.ListN.{length, take, drop, replicate}
-use Rattle.answers.specs.Numbers.{done, notOffered, wrongLength, noRoom, noWord, pastEnd, smallLength, brokenFill, fewLeft, messagePastEnd, noType, longBody}
+use Rattle.answers.specs.Numbers.{done, notOffered, wrongLength, noRoom, noBit, noTraining, noWord, pastEnd, smallLength, brokenFill, fewLeft, messagePastEnd, noType, longBody}
 use Rattle.answers.specs.Outcome.{refusal}
 use Rattle.bits.specs.Bits.{byte}
+use Rattle.blocks.specs.Block.{blockOf, imageOf}
 use Rattle.blocks.specs.Calls.{writeBlock}
 use Rattle.links.specs.Patterns.{flags, patternOf, tailOf}
 use Rattle.links.specs.Rows.{offered, rowOf}
@@ -14,7 +15,7 @@ use Rattle.links.specs.Sizes.{openBits, bytesHeld, passedOn, tailBits, imageLen
 use Rattle.messages.specs.Step.{stepMessage, finished, message, lie, refused as step-refused}
 use Rattle.message_writer.specs.Calls.{laying, writeMessage, zeroFill, refusal as laid-refused}
 use Rattle.parts.specs.State.{stop, state, fresh, taken, heard}
-use Rattle.slots.specs.Burst.{headOf, burstOf, burstLength}
+use Rattle.slots.specs.Burst.{training, headOf, burstOf, burstLength}
 use Rattle.slots.specs.Calls.{writeSlot, readSlot, refused as slot-refused}
 use Rattle.turbo.specs.Encoder.{start, next, y0, y1}
 use Rattle.turbo.specs.Interleaver.{position}
@@ -36,6 +37,10 @@ inverted (suc n) (true ∷ row) (true ∷ other) = true ∷ inverted (suc n) row
 inverted (suc n) (true ∷ row) (false ∷ other) = false ∷ inverted n row other
 inverted (suc n) (false ∷ row) (true ∷ other) = true ∷ inverted n row other
 inverted (suc n) (false ∷ row) (false ∷ other) = false ∷ inverted (suc n) row other
+
+-- the head of a link with the first bits of its training and of its word inverted, so many of each
+abbrev pub noisy : ℕ → ℕ → ℕ → List Bool
+noisy inTraining inWord link = firstInverted inTraining training ++ firstInverted inWord (wordBits link)
 
 -- a datagram of eight bytes whose message declares a length
 abbrev pub declaring : ℕ → List ℕ
@@ -104,6 +109,15 @@ pub record Cases : Type 0 where
       × (writeMessage 0 0 1 body 0 ≡ laid-refused noType) × (writeMessage 1 0 1 body 0 ≡ laid-refused pastEnd)
   -- zero fill of the last three bytes, of none, and past the end
   pub K6-fill : (zeroFill 5 8 ≡ laying (0 ∷ 0 ∷ 0 ∷ [])) × (zeroFill 8 8 ≡ laying []) × (zeroFill 9 8 ≡ laid-refused pastEnd)
+  -- document 02, K7: one wrong bit of the training, and eight with seven of the word, are answered with these numbers
+  pub K7-answered : (datagram : List ℕ) → length datagram ≤ 32 → (room : ℕ) → 32 ≤ room → let rest = imageOf (rowOf 5) (blockOf (rowOf 5) datagram) in
+      (readSlot (map byte (noisy 1 0 5 ++ rest)) room .answer ≡ record { status = done; count = 32; wrong = 0; link = 5; «word_wrong» = 0; «training_wrong» = 1 })
+      × (readSlot (map byte (noisy 8 7 5 ++ rest)) room .answer ≡ record { status = done; count = 32; wrong = 0; link = 5; «word_wrong» = 7; «training_wrong» = 8 })
+  -- nine are refused, though they are bits of five symbols; with a word that is refused too, 5 comes first. With eight, the word decides:
+  -- 6, and 1 for link 4's; a byte that is no bit is 4 before all of these
+  pub K7-order : (rest : List Bool) (room : ℕ) → (readSlot (map byte (noisy 9 0 5 ++ rest)) room ≡ slot-refused noTraining) × (readSlot (map byte (noisy 9 8 5 ++ rest)) room ≡ slot-refused noTraining)
+      × (readSlot (map byte (noisy 8 8 5 ++ rest)) room ≡ slot-refused noWord) × (readSlot (map byte (noisy 8 7 4 ++ rest)) room ≡ slot-refused notOffered)
+      × (readSlot (map byte (take 85 (noisy 9 8 5)) ++ 2 ∷ map byte rest) room ≡ slot-refused noBit)
   -- a slot burst of 480 bits under link 7's word
   pub short-7 : (rest : List Bool) (room : ℕ) → length rest ≡ 394 → readSlot (map byte (headOf 7 ++ rest)) room ≡ slot-refused wrongLength
   -- the lengths of slot bursts

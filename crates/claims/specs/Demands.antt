@@ -7,8 +7,8 @@ use Prim.Native.Nat.{ℕ, _+_, _*_, _<_, _≤_, min}
 use lib.ListN.{length, getD, take, drop, replicate}
 use Rattle.lists.specs.Every.{every}
 use Rattle.answers.specs.declared.Written.{Written}
-use Rattle.answers.specs.Numbers.{done, noWord, noBlock, brokenFill, messagePastEnd}
-use Rattle.bits.specs.Bits.{isOne, byte}
+use Rattle.answers.specs.Numbers.{done, noTraining, noWord, noBlock, brokenFill, messagePastEnd}
+use Rattle.bits.specs.Bits.{isOne, byte, allBits}
 use Rattle.bits.specs.Datagram.{allBytes}
 use Rattle.bits.specs.Row.{differences, flip}
 use Rattle.links.specs.Patterns.{patternOf, flagsAt}
@@ -25,7 +25,7 @@ use Rattle.blocks.specs.declared.Block.{Block}
 use Rattle.blocks.specs.Block.{blockOf, imageOf, datagramOf, zeroFilled}
 use Rattle.blocks.specs.Near.{Valid, Near as NearBlock}
 use Rattle.slots.specs.declared.Slot.{Slot}
-use Rattle.slots.specs.Burst.{trainingPart, wordPart, blockPart, isSlotLink, burstLength, burstOf}
+use Rattle.slots.specs.Burst.{training, headLength, headPart, trainingPart, wordPart, blockPart, isSlotLink, burstLength, burstOf}
 use Rattle.slots.specs.Near.{Near as NearBurst}
 use Rattle.parts.specs.State.{longest, stop, State, state, fresh}
 use Rattle.parts.specs.Taking.{TookPart, joined, TookAll}
@@ -66,10 +66,10 @@ pub record Demand1 : Type 1 where
       → (answer .count ≡ 0) × (answer .wrong ≡ 0) × (new ≡ old)
   pub write-slot-refused : (link : ℕ) (datagram old new : List ℕ) (answer : Written) → WroteSlot link datagram old new answer → (answer .status ≡ done → ⊥) → (answer .count ≡ 0) × (new ≡ old)
   pub read-slot-refused : (burst old new : List ℕ) (answer : Slot) → ReadSlot burst old new answer → (answer .status ≡ done → ⊥)
-      → (answer .count ≡ 0) × (answer .wrong ≡ 0) × (answer .link ≡ 0) × (answer .«word_wrong» ≡ 0) × (new ≡ old)
+      → (answer .count ≡ 0) × (answer .wrong ≡ 0) × (answer .link ≡ 0) × (answer .«word_wrong» ≡ 0) × (answer .«training_wrong» ≡ 0) × (new ≡ old)
   -- by parts too: "the state isn't among demand 1's lent bytes"
   pub read-parts-refused : (before after : State) (old new : List ℕ) (answer : Slot) → ReadParts before after old new answer → (answer .status ≡ done → ⊥)
-      → (answer .count ≡ 0) × (answer .wrong ≡ 0) × (answer .link ≡ 0) × (answer .«word_wrong» ≡ 0) × (new ≡ old)
+      → (answer .count ≡ 0) × (answer .wrong ≡ 0) × (answer .link ≡ 0) × (answer .«word_wrong» ≡ 0) × (answer .«training_wrong» ≡ 0) × (new ≡ old)
   -- 0 for all other numbers, but by document 02's K3 for the place of a message that lies, and the bytes that are missing where it runs past
   -- the end
   pub step-refused : (datagram : List ℕ) (position : ℕ) (answer : Step) → Stepped datagram position answer → (answer .status ≡ done → ⊥)
@@ -160,7 +160,7 @@ pub record Demand2 : Type 0 where
       → BlockAnswer (zeroFilled (rowOf link) datagram) 0 old' new' answer
   pub slots-back : (link : ℕ) (datagram old new : List ℕ) (written : Written) → allBytes datagram ≡ true → WroteSlot link datagram old new written → written .status ≡ done
       → (old' new' : List ℕ) (answer : Slot) → bytesHeld (rowOf link) ≤ length old' → ReadSlot (take (written .count) new) old' new' answer
-      → SlotAnswer (zeroFilled (rowOf link) datagram) 0 link 0 old' new' answer
+      → SlotAnswer (zeroFilled (rowOf link) datagram) 0 link 0 0 old' new' answer
   -- zeros at a datagram's end are kept: a reader answers all the bytes that the link holds
   pub blocks-full : (link : ℕ) (bits old new : List ℕ) (answer : Block) → ReadBlock link bits old new answer → answer .status ≡ done → answer .count ≡ bytesHeld (rowOf link)
   pub slots-full : (burst old new : List ℕ) (answer : Slot) → ReadSlot burst old new answer → answer .status ≡ done → answer .count ≡ bytesHeld (rowOf (answer .link))
@@ -245,12 +245,13 @@ pub record Demand3 : Type 0 where
   -- with up to seven places of the word wrong
   pub word-mended : (n : ℕ) → n < 64 → (row : List Bool) → length row ≡ 32 → differences (wordBits n) row ≤ 7
       → (answer : Word) → ReadWord (map byte row) answer → answer ≡ found n (differences (wordBits n) row)
-  -- and a burst with both
+  -- and a burst with both, and by document 02's K7 up to eight places of the training wrong
   pub slot-mended : (link : ℕ) (datagram old new : List ℕ) (written : Written) → allBytes datagram ≡ true → WroteSlot link datagram old new written → written .status ≡ done
-      → (came : List Bool) → length came ≡ written .count → trainingPart came ≡ trainingPart (burstOf link datagram)
+      → (came : List Bool) → length came ≡ written .count → differences (trainingPart (burstOf link datagram)) (trainingPart came) ≤ 8
       → differences (wordPart (burstOf link datagram)) (wordPart came) ≤ 7 → differences (blockPart (burstOf link datagram)) (blockPart came) ≤ 1
       → (old' new' : List ℕ) (answer : Slot) → bytesHeld (rowOf link) ≤ length old' → ReadSlot (map byte came) old' new' answer
-      → SlotAnswer (zeroFilled (rowOf link) datagram) (differences (blockPart (burstOf link datagram)) (blockPart came)) link (differences (wordPart (burstOf link datagram)) (wordPart came)) old' new' answer
+      → SlotAnswer (zeroFilled (rowOf link) datagram) (differences (blockPart (burstOf link datagram)) (blockPart came)) link (differences (wordPart (burstOf link datagram)) (wordPart came))
+      (differences (trainingPart (burstOf link datagram)) (trainingPart came)) old' new' answer
   -- "and never mistaken": two different code words differ in at least 16 places, two valid blocks of a link and their images in three
   pub words-apart : (m n : ℕ) → m < 64 → n < 64 → (m ≡ n → ⊥) → 16 ≤ differences (wordBits m) (wordBits n)
   pub blocks-apart : (link : ℕ) → offered link ≡ true → (u w : List Bool) → Valid (rowOf link) u → Valid (rowOf link) w → (u ≡ w → ⊥) → 3 ≤ differences u w
@@ -285,23 +286,34 @@ pub record Demand3 : Type 0 where
   pub word-nine : (row : List Bool) → length row ≡ 32 → ((i : ℕ) → i < 32 → getD (wordBits 0) i false ≡ getD (wordBits 1) i false → getD row i false ≡ getD (wordBits 0) i false)
       → differences (wordBits 0) row ≡ 9 → (answer : Word) → ReadWord (map byte row) answer → answer ≡ found 1 7
   pub word-only-one : (row : List Bool) (m n a b : ℕ) → NearWord row m a → NearWord row n b → m ≡ n
-  -- and so of slot bursts: answered exactly when the training is right, the word of a slot link is within seven places of the word, a
-  -- valid block's image of that link is within one place of the rest, and the buffer is large enough
+  -- and so of slot bursts: answered exactly when the training is within eight places of the first 54 bits, the word of a slot link within seven
+  -- of the next 32, a valid block's image of that link within one of the rest, and the buffer is large enough
   pub slot-exact : (came : List Bool) (old new : List ℕ) (answer : Slot) → ReadSlot (map byte came) old new answer
       → (answer .status ≡ done) ↔ ((link : ℕ) × (wordWrong : ℕ) × (u : List Bool) × NearBurst came link wordWrong u × (bytesHeld (rowOf link) ≤ length old))
   pub slot-only-one : (came : List Bool) (link link' wrong wrong' : ℕ) (u u' : List Bool) → NearBurst came link wrong u → NearBurst came link' wrong' u'
       → (link ≡ link') × (wrong ≡ wrong') × (u ≡ u')
   pub slot-answered : (came : List Bool) (link wordWrong : ℕ) (u : List Bool) → NearBurst came link wordWrong u → (old new : List ℕ) (answer : Slot)
       → bytesHeld (rowOf link) ≤ length old → ReadSlot (map byte came) old new answer
-      → SlotAnswer (datagramOf (rowOf link) u) (differences (imageOf (rowOf link) u) (blockPart came)) link wordWrong old new answer
+      → SlotAnswer (datagramOf (rowOf link) u) (differences (imageOf (rowOf link) u) (blockPart came)) link wordWrong (differences training (trainingPart came)) old new answer
+  -- document 02, K7: "A slot burst is read if at most eight differ, and its answer carries that number": the number is the true one. "5 is
+  -- now given exactly at nine or more", where the head is there and made of bits
+  pub training-counted : (burst old new : List ℕ) (answer : Slot) → ReadSlot burst old new answer → answer .status ≡ done
+      → (answer .«training_wrong» ≡ differences training (map isOne (trainingPart burst))) × (answer .«training_wrong» ≤ 8)
+  pub training-refused : (burst old new : List ℕ) (answer : Slot) → ReadSlot burst old new answer
+      → (answer .status ≡ noTraining) ↔ ((headLength ≤ length burst) × (allBits (headPart burst) ≡ true) × (9 ≤ differences training (map isOne (trainingPart burst))))
   -- document 02, K2: "Demand 3 then holds for bursts that came in parts", however they were cut
   pub parts-mended : (link : ℕ) (datagram old new : List ℕ) (written : Written) → allBytes datagram ≡ true → WroteSlot link datagram old new written → written .status ≡ done
-      → (came : List Bool) → length came ≡ written .count → trainingPart came ≡ trainingPart (burstOf link datagram)
+      → (came : List Bool) → length came ≡ written .count → differences (trainingPart (burstOf link datagram)) (trainingPart came) ≤ 8
       → differences (wordPart (burstOf link datagram)) (wordPart came) ≤ 7 → differences (blockPart (burstOf link datagram)) (blockPart came) ≤ 1
       → (old' new' : List ℕ) (answer : Slot) → bytesHeld (rowOf link) ≤ length old' → CameInParts (map byte came) old' new' answer
-      → SlotAnswer (zeroFilled (rowOf link) datagram) (differences (blockPart (burstOf link datagram)) (blockPart came)) link (differences (wordPart (burstOf link datagram)) (wordPart came)) old' new' answer
+      → SlotAnswer (zeroFilled (rowOf link) datagram) (differences (blockPart (burstOf link datagram)) (blockPart came)) link (differences (wordPart (burstOf link datagram)) (wordPart came))
+      (differences (trainingPart (burstOf link datagram)) (trainingPart came)) old' new' answer
   pub parts-exact : (came : List Bool) (old new : List ℕ) (answer : Slot) → CameInParts (map byte came) old new answer
       → (answer .status ≡ done) ↔ ((link : ℕ) × (wordWrong : ℕ) × (u : List Bool) × NearBurst came link wordWrong u × (bytesHeld (rowOf link) ≤ length old))
   pub parts-answered : (came : List Bool) (link wordWrong : ℕ) (u : List Bool) → NearBurst came link wordWrong u → (old new : List ℕ) (answer : Slot)
       → bytesHeld (rowOf link) ≤ length old → CameInParts (map byte came) old new answer
-      → SlotAnswer (datagramOf (rowOf link) u) (differences (imageOf (rowOf link) u) (blockPart came)) link wordWrong old new answer
+      → SlotAnswer (datagramOf (rowOf link) u) (differences (imageOf (rowOf link) u) (blockPart came)) link wordWrong (differences training (trainingPart came)) old new answer
+  pub parts-training-counted : (burst old new : List ℕ) (answer : Slot) → CameInParts burst old new answer → answer .status ≡ done
+      → (answer .«training_wrong» ≡ differences training (map isOne (trainingPart burst))) × (answer .«training_wrong» ≤ 8)
+  pub parts-training-refused : (burst old new : List ℕ) (answer : Slot) → CameInParts burst old new answer
+      → (answer .status ≡ noTraining) ↔ ((headLength ≤ length burst) × (allBits (headPart burst) ≡ true) × (9 ≤ differences training (map isOne (trainingPart burst))))

@@ -5,7 +5,7 @@ use mathlib.Core.Bool.{Bool, true, false, cond}
 use mathlib.Core.List.{List}
 use Prim.Native.Nat.{ℕ, _≤_}
 use native.Mathlib.Omega.{arith}
-use lib.Dec.{eqb, ltb}
+use lib.Dec.{eqb, leb, ltb}
 use lib.ListN.{length, take, drop}
 use lib.Seq.{take-take}
 use borrow.Author.Tests.{eqb-true, eqb-false, le-ltb}
@@ -53,7 +53,7 @@ head-slot burst =
     by-cond Slotted (ltb (length burst) headLength)
     (λ s. refused-so wrongLength (λ z. omega (arith, z)))
     (λ s. by-cond Slotted (allBits (headPart burst))
-    (λ a. by-cond Slotted (eqb (trainingWrong burst) 0) (λ t. named-slot (readWord (wordPart burst)) (trainingWrong burst)) (λ t. refused-so noTraining (λ z. omega (arith, z))))
+    (λ a. by-cond Slotted (leb (trainingWrong burst) 8) (λ t. named-slot (readWord (wordPart burst)) (trainingWrong burst)) (λ t. refused-so noTraining (λ z. omega (arith, z))))
     (λ a. refused-so noBit (λ z. omega (arith, z))))
 
 -- ---- one head is read alike, whatever is behind it
@@ -65,7 +65,7 @@ module _ (a b : List ℕ) (same : headPart a ≡ headPart b) where
   same-word = sym (drop-take trainingLength headLength a) ∙ ap (drop trainingLength) same ∙ drop-take trainingLength headLength b
 
   same-head : headLength ≤ length a → headLength ≤ length b → readHead a ≡ readHead b
-  unfolding readHead trainingWrong
+  unfolding readHead
   same-head k l = rw (le-ltb (length a) headLength k, le-ltb (length b) headLength l, same, same-training, same-word)
 
 -- ---- and so are bursts with one head that have no slot link's length

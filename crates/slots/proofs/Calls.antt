@@ -1,11 +1,12 @@
 -- When reading a slot burst is answered and when it is refused, one law for each way.
 -- Assumes nothing.
-use mathlib.Core.Path.{_≡_, _∙_}
+use mathlib.Core.Path.{_≡_}
 use mathlib.Core.Bool.{true, false}
 use mathlib.Core.List.{List}
 use Prim.Native.Nat.{ℕ, _<_, _≤_}
+use native.Mathlib.Omega.{arith}
 use lib.ListN.{length}
-use borrow.Author.Tests.{lt-ltb, le-ltb, eq-eqb, ne-eqb}
+use borrow.Author.Tests.{lt-ltb, le-ltb, le-leb, lt-leb, eq-eqb, ne-eqb}
 use Rattle.answers.specs.Numbers.{done, notOffered, wrongLength, noBit, noTraining, noWord}
 use Rattle.bits.specs.Bits.{allBits}
 use Rattle.blocks.specs.Calls.{readBlock}
@@ -42,14 +43,14 @@ module _ (burst : List ℕ) where
     head-no-bit h = rw (le-ltb (length burst) headLength long, h)
 
     module _ (all : allBits (headPart burst) ≡ true) where
-      pub head-no-training : (trainingWrong burst ≡ 0 → ⊥) → readHead burst ≡ refusedHead noTraining
+      pub head-no-training : 8 < trainingWrong burst → readHead burst ≡ refusedHead noTraining
       unfolding readHead
-      head-no-training h = rw (le-ltb (length burst) headLength long, all, ne-eqb (trainingWrong burst) 0 h)
+      head-no-training h = rw (le-ltb (length burst) headLength long, all, lt-leb (trainingWrong burst) 8 h)
 
-      -- with its training, a head goes by its word
-      pub head-word : {word : Word} {wrong : ℕ} → readWord (wordPart burst) ≡ word → trainingWrong burst ≡ wrong → wrong ≡ 0 → readHead burst ≡ namedHead word wrong
+      -- with its training near, a head goes by its word
+      pub head-word : {word : Word} {wrong : ℕ} → readWord (wordPart burst) ≡ word → trainingWrong burst ≡ wrong → wrong ≤ 8 → readHead burst ≡ namedHead word wrong
       unfolding readHead
-      head-word r t h = rw (le-ltb (length burst) headLength long, all, eq-eqb (trainingWrong burst) 0 (t ∙ h), r, t)
+      head-word r t h = rw (le-ltb (length burst) headLength long, all, le-leb (trainingWrong burst) 8 (omega (arith, t, h)), r, t)
 
 -- ---- reading
 module _ (burst : List ℕ) (room : ℕ) where

@@ -50,7 +50,7 @@ module _ (burst : List ℕ) where
   word-bits e = ap allBits (sym (drop-take trainingLength headLength burst)) ∙ every-drop _ trainingLength (headPart burst) e
 
 -- ---- the parts of a head with something behind it
-length-head-bits : (link : ℕ) → length (headOf link) ≡ headLength
+pub length-head-bits : (link : ℕ) → length (headOf link) ≡ headLength
 length-head-bits link = sym (length-map (headOf link) byte) ∙ length-head link
 
 training-long : length training ≡ trainingLength
@@ -80,7 +80,7 @@ module _ (link : ℕ) (rest : List Bool) where
       record {
         slot = slot;
         long = omega (arith, length-append (headOf link) rest, length-head-bits link);
-        trained = training-of;
+        trained = omega (arith, ap (differences training) training-of, differences-self training);
         word = record { known = slot-has-word link slot; count = none; within = omega arith };
       }
 

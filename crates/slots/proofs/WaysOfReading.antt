@@ -1,19 +1,18 @@
 -- The ways that reading a slot burst goes, line by line as document 01 numbers them: 2, 4, 5, 6, 1 of the head, 2, 3, 4, 7 of the
 -- rest, done.
 -- Assumes nothing.
-use mathlib.Core.Path.{_≡_, refl, sym, _∙_}
+use mathlib.Core.Path.{_≡_, refl, sym, ap, _∙_}
 use mathlib.Core.Bool.{Bool, true, false, true≢false}
 use mathlib.Core.List.{List, map}
 use Prim.Native.Nat.{ℕ, _<_, _≤_}
 use native.Mathlib.Omega.{arith}
-use lib.Dec.{eqb, ltb}
+use lib.Dec.{leb, ltb}
 use lib.ListN.{length, length-map, length-drop}
-use borrow.Author.Tests.{eqb-true, eqb-false, ltb-true, ltb-false}
+use borrow.Author.Tests.{leb-true, leb-false, ltb-true, ltb-false}
 use Rattle.answers.specs.Numbers.{notOffered, wrongLength, noRoom, noBit, noTraining, noWord, noBlock}
 use Rattle.answers.specs.Outcome.{Outcome}
 use Rattle.bits.specs.Bits.{isOne, byte, allBits}
 use Rattle.bits.specs.Row.{differences}
-use Rattle.bits.proofs.Differences.{differences-self, differences-zero}
 use Rattle.links.specs.Rows.{rowOf}
 use Rattle.links.specs.Sizes.{bytesHeld, imageLength}
 use Rattle.blocks.specs.declared.Block.{Block}
@@ -25,7 +24,7 @@ use Rattle.words.specs.declared.Word.{Word}
 use Rattle.words.specs.Near.{Near as NearWord}
 use Rattle.words.specs.Calls.{readWord, found, refused as refusedWord}
 use Rattle.words.proofs.Ways as w
-use Rattle.slots.specs.Burst.{training, trainingLength, headLength, headPart, trainingPart, wordPart, blockPart, isSlotLink}
+use Rattle.slots.specs.Burst.{training, trainingLength, headLength, headPart, wordPart, blockPart, isSlotLink}
 use Rattle.slots.specs.Near.{Near}
 use Rattle.slots.specs.Head.{refusedHead, foundHead, trainingWrong, namedHead, readHead}
 use Rattle.slots.specs.Calls.{refused, both, joined, readSlot}
@@ -34,11 +33,11 @@ use Rattle.slots.proofs.Calls.{word-refused, word-no-slot, word-slot, h
 use Rattle.slots.proofs.Links.{slot-offered}
 use Rattle.slots.proofs.Parts.{part-back, rest-back, word-long, word-bits}
 
--- the head is there, made of bits, with the training
+-- the head is there, made of bits, with the training near
 pub record Trained (burst : List ℕ) : Type 0 where
   pub long : headLength ≤ length burst
   pub bits : allBits (headPart burst) ≡ true
-  pub same : map isOne (trainingPart burst) ≡ training
+  pub within : trainingWrong burst ≤ 8
 
 -- and its word is near that of a link, which is a slot link
 pub record Named (burst : List ℕ) (link wrong : ℕ) : Type 0 where
@@ -58,7 +57,7 @@ pub record Sized (burst : List ℕ) (room link : ℕ) : Type 0 where
 pub data Reading (burst : List ℕ) (room : ℕ) : Type 0 where
   too-few : length burst < headLength → readSlot burst room ≡ refused wrongLength → Reading burst room
   no-bits : headLength ≤ length burst → allBits (headPart burst) ≡ false → readSlot burst room ≡ refused noBit → Reading burst room
-  no-training : headLength ≤ length burst → allBits (headPart burst) ≡ true → (map isOne (trainingPart burst) ≡ training → ⊥) → readSlot burst room ≡ refused noTraining → Reading burst room
+  no-training : headLength ≤ length burst → allBits (headPart burst) ≡ true → 8 < trainingWrong burst → readSlot burst room ≡ refused noTraining → Reading burst room
   no-word : Trained burst → w.NoneNear (map isOne (wordPart burst)) 64 → readSlot burst room ≡ refused noWord → Reading burst room
   no-slot : (link wrong : ℕ) → Named burst link wrong → isSlotLink link ≡ false → readSlot burst room ≡ refused notOffered → Reading burst room
   no-length : (link wrong : ℕ) → Headed burst link wrong → (length (blockPart burst) ≡ imageLength (rowOf link) → ⊥) → readSlot burst room ≡ refused wrongLength → Reading burst room
@@ -69,11 +68,11 @@ pub data Reading (burst : List ℕ) (room : ℕ) : Type 0 where
       → ((u : List Bool) → NearBlock (rowOf link) (map isOne (blockPart burst)) u → ⊥) → readSlot burst room ≡ refused noBlock → Reading burst room
   reads : (link wrong : ℕ) → Headed burst link wrong → Sized burst room link → allBits (blockPart burst) ≡ true
       → (u : List Bool) → NearBlock (rowOf link) (map isOne (blockPart burst)) u
-      → readSlot burst room ≡ reading (datagramOf (rowOf link) u) (differences (imageOf (rowOf link) u) (map isOne (blockPart burst))) link wrong → Reading burst room
+      → readSlot burst room ≡ reading (datagramOf (rowOf link) u) (differences (imageOf (rowOf link) u) (map isOne (blockPart burst))) link wrong (trainingWrong burst) → Reading burst room
 
 module _ (burst : List ℕ) (room : ℕ) where
   -- a refusal of the head is the answer
-  head-refuses : (number : ℕ) → (number ≡ 0 → ⊥) → readHead burst ≡ refusedHead number → readSlot burst room ≡ refused number
+  pub head-refuses : (number : ℕ) → (number ≡ 0 → ⊥) → readHead burst ≡ refusedHead number → readSlot burst room ≡ refused number
   head-refuses number h e = rw (read-refused burst room (rw e h), e)
 
   -- what the rest is read as, joined with the head
@@ -90,18 +89,10 @@ module _ (burst : List ℕ) (room : ℕ) where
     rest-goes (b.none-near o s r a f e) = none-near link wrong h (record { size = s; fits = r }) a f (is-joined e)
     rest-goes (b.reads o s r a u n e) = reads link wrong h (record { size = s; fits = r }) a u n (is-joined e)
 
-  same-training : trainingWrong burst ≡ 0 → map isOne (trainingPart burst) ≡ training
-  unfolding trainingWrong
-  same-training e = sym (differences-zero training (map isOne (trainingPart burst)) e)
-
-  training-wrong : map isOne (trainingPart burst) ≡ training → trainingWrong burst ≡ 0
-  unfolding trainingWrong
-  training-wrong e = rw e (differences-self training)
-
-  -- what the word of a head with its training is read as
+  -- what the word of a head with its training near is read as
   module _ (t : Trained burst) where
     as-read : {word : Word} → readWord (wordPart burst) ≡ word → readHead burst ≡ namedHead word (trainingWrong burst)
-    as-read e = head-word burst (t .long) (t .bits) e refl (training-wrong (t .same))
+    as-read e = head-word burst (t .long) (t .bits) e refl (t .within)
 
     slot-goes : (link wrong : ℕ) → Named burst link wrong → (slot : Bool) → isSlotLink link ≡ slot → Reading burst room
     slot-goes link wrong n true s =
@@ -117,22 +108,22 @@ module _ (burst : List ℕ) (room : ℕ) where
     word-goes (w.reads l a link wrong n e) = slot-goes link wrong (record { trained = t; near = n; read = e }) (isSlotLink link) refl
 
   pub reading-goes : Reading burst room
-  reading-goes = decided (ltb (length burst) headLength) (allBits (headPart burst)) (eqb (trainingWrong burst) 0) refl refl refl
+  reading-goes = decided (ltb (length burst) headLength) (allBits (headPart burst)) (leb (trainingWrong burst) 8) refl refl refl
     where
-      decided : (short all same : Bool) → ltb (length burst) headLength ≡ short → allBits (headPart burst) ≡ all → eqb (trainingWrong burst) 0 ≡ same → Reading burst room
-      decided true all same s a t =
+      decided : (short all near : Bool) → ltb (length burst) headLength ≡ short → allBits (headPart burst) ≡ all → leb (trainingWrong burst) 8 ≡ near → Reading burst room
+      decided true all near s a t =
           let h = ltb-true (length burst) headLength s in
           too-few h (head-refuses wrongLength (λ z. omega (arith, z)) (head-short burst h))
-      decided false false same s a t =
+      decided false false near s a t =
           let l = ltb-false (length burst) headLength s in
           no-bits l a (head-refuses noBit (λ z. omega (arith, z)) (head-no-bit burst l a))
       decided false true false s a t =
           let l = ltb-false (length burst) headLength s in
-          let other = eqb-false (trainingWrong burst) 0 t in
-          no-training l a (λ e. other (training-wrong e)) (head-refuses noTraining (λ z. omega (arith, z)) (head-no-training burst l a other))
+          let far = leb-false (trainingWrong burst) 8 t in
+          no-training l a far (head-refuses noTraining (λ z. omega (arith, z)) (head-no-training burst l a far))
       decided false true true s a t =
           let l = ltb-false (length burst) headLength s in
-          word-goes (record { long = l; bits = a; same = same-training (eqb-true (trainingWrong burst) 0 t) }) (w.reading-goes (wordPart burst))
+          word-goes (record { long = l; bits = a; within = leb-true (trainingWrong burst) 8 t }) (w.reading-goes (wordPart burst))
 
 -- a burst that is read is near, as demand 3 says it
 pub near-burst : (came : List Bool) (link wrong : ℕ) → Headed (map byte came) link wrong → {room : ℕ} → Sized (map byte came) room link
@@ -143,7 +134,7 @@ near-burst came link wrong h s u n =
       head = record {
         slot = h .slot;
         long = omega (arith, t .long, length-map came byte);
-        trained = sym (part-back came trainingLength 0) ∙ t .same;
+        trained = omega (arith, ap (differences training) (part-back came trainingLength 0), t .within);
         word = rw (part-back came 32 trainingLength) at (h .named .near);
       };
       size = omega (arith, t .long, s .size, length-map came byte, length-drop headLength (map byte came));

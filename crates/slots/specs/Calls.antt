@@ -33,13 +33,13 @@ writeSlot link datagram room = writeTask (slotTask link datagram) room
 -- ---- reading: the head, and then the rest as a block
 -- a reader that refuses: the number, and 0 for all else
 abbrev pub refused : ℕ → Outcome Slot
-refused number = record { answer = record { status = number; count = 0; wrong = 0; link = 0; «word_wrong» = 0 }; bytes = [] }
+refused number = record { answer = record { status = number; count = 0; wrong = 0; link = 0; «word_wrong» = 0; «training_wrong» = 0 }; bytes = [] }
 
 -- what was read of the rest as a block, with what was read of the head
 unfoldable pub both : Head → Block → Slot
 both head block =
     cond (eqb (block .status) done)
-    (record { status = done; count = block .count; wrong = block .wrong; link = head .link; «word_wrong» = head .«word_wrong» })
+    (record { status = done; count = block .count; wrong = block .wrong; link = head .link; «word_wrong» = head .«word_wrong»; «training_wrong» = head .«training_wrong» })
     (refused (block .status) .answer)
 
 abbrev pub joined : Head → Outcome Block → Outcome Slot

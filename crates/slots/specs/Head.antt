@@ -2,7 +2,7 @@
 use mathlib.Core.Bool.{cond}
 use mathlib.Core.List.{List, map}
 use Prim.Native.Nat.{ℕ}
-use lib.Dec.{eqb, ltb}
+use lib.Dec.{eqb, leb, ltb}
 use lib.ListN.{length}
 use Rattle.answers.specs.Numbers.{done, notOffered, wrongLength, noBit, noTraining, noWord}
 use Rattle.bits.specs.Bits.{isOne, allBits}
@@ -24,7 +24,7 @@ foundHead link inWord inTraining =
     record { status = done; link = link; «word_wrong» = inWord; «training_wrong» = inTraining; rest = imageLength (rowOf link) }
 
 -- in how many bits the training of a burst differs
-unfoldable pub trainingWrong : List ℕ → ℕ
+abbrev pub trainingWrong : List ℕ → ℕ
 trainingWrong bits = differences training (map isOne (trainingPart bits))
 
 -- a head whose word was read, with so many wrong bits in its training: refused where the word is, or names no slot link
@@ -34,10 +34,10 @@ namedHead word wrong =
     (cond (isSlotLink (word .number)) (foundHead (word .number) (word .wrong) wrong) (refusedHead notOffered))
     (refusedHead noWord)
 
--- reading, in the order 2, 4, 5, 6, 1
+-- reading, in the order 2, 4, 5, 6, 1; document 02, K7: "5 is now given exactly at nine or more"
 unfoldable pub readHead : List ℕ → Head
 readHead bits =
     cond (ltb (length bits) headLength) (refusedHead wrongLength)
     (cond (allBits (headPart bits))
-    (cond (eqb (trainingWrong bits) 0) (namedHead (readWord (wordPart bits)) (trainingWrong bits)) (refusedHead noTraining))
+    (cond (leb (trainingWrong bits) 8) (namedHead (readWord (wordPart bits)) (trainingWrong bits)) (refusedHead noTraining))
     (refusedHead noBit))

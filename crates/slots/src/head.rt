@@ -76,10 +76,9 @@ pub fn read(burst: &[u8]) -> Head
         return refuse(4);
     }
     let wrong = training::wrong(&burst[..54]);
-    let trained = wrong == 0;
     let word = words::read(&burst[54..86]);
     let named = word.status == 0;
-    if !trained {
+    if wrong > 8 {
         return refuse(5);
     }
     if !named {

@@ -7,7 +7,7 @@ mod writer;
 pub use reader::read;
 pub use writer::write;
 
-// What reading a slot burst answers: what reading its block does, its link, and the link word's own wrong.
+// What reading a slot burst answers: what reading its block does, its link, and the wrong bits of the link word and of the training.
 #[repr(C)]
 pub struct Slot {
     pub status: u32,
@@ -15,4 +15,5 @@ pub struct Slot {
     pub wrong: u32,
     pub link: u32,
     pub word_wrong: u32,
+    pub training_wrong: u32,
 }

@@ -17,6 +17,7 @@ fn refuse(status: u32) -> Slot
         wrong: 0,
         link: 0,
         word_wrong: 0,
+        training_wrong: 0,
     }
 }
 
@@ -33,6 +34,7 @@ fn join(head: head::Head, block: Block) -> Slot
         wrong: block.wrong,
         link: head.link,
         word_wrong: head.word_wrong,
+        training_wrong: head.training_wrong,
     }
 }
 

@@ -6,7 +6,7 @@ use crate::harness::guarded::ROOM;
 use crate::harness::report::{named_tests, Given, NamedTest, Test};
 use crate::harness::requests::blocks::{ReadBlock, WriteBlock};
 use crate::harness::requests::slots::{ReadSlot, WriteSlot};
-use crate::harness::samples::{image_of, random_datagram, SLOT_SIZES};
+use crate::harness::samples::{behind, image_of, random_datagram, SLOT_SIZES};
 use crate::second::bits::{bits, inverted};
 use crate::second::link_4::Request;
 use crate::second::link_tables::LinkTables;
@@ -129,8 +129,9 @@ fn archive_writes_no_slot_of_link_4(_: &Given, test: &mut Test) {
     }
 }
 
-/// A block of link 4 under its own word, with up to seven places of it wrong, and behind that word
-/// what has another length or is no bit: refusal 1. The same block under a slot link's word: 2.
+/// A block of link 4 under its own word, with up to seven places of it and up to eight of the training
+/// wrong, and behind that word what has another length or is no bit: refusal 1. With nine of the
+/// training wrong: 5. The same block under a slot link's word: 2.
 fn archive_reads_no_slot_of_link_4(given: &Given, test: &mut Test) {
     let second = Second::read(&given.tables);
     let link = second.links.of(4);
@@ -140,15 +141,17 @@ fn archive_reads_no_slot_of_link_4(given: &Given, test: &mut Test) {
         let head = [bits(&second.training), bits(second.words.of(number))].concat();
         [&head, rest].concat()
     };
-    for wrong in (0..=7).cycle().take(400) {
+    for wrong in (0..=9).cycle().take(400) {
+        let refusal = if wrong == 9 { 5 } else { 1 };
         let image = image_of(link, &random_datagram(link, &mut random));
-        let places = random.places(wrong, PLACES);
-        let of_word: Vec<usize> = places.iter().map(|place| TRAINING + place).collect();
-        let burst = inverted(&under(4, &image), &of_word);
+        let of_training = random.places(wrong, TRAINING);
+        let word_wrong = random.below(8);
+        let of_word = behind(TRAINING, random.places(word_wrong, PLACES));
+        let burst = inverted(&under(4, &image), &[of_training, of_word].concat());
         let non_bit = [&burst[..HEAD], &[2; 1281]].concat();
         for came in [&burst[..], &burst[..HEAD], &burst[..480], &non_bit] {
             for buffer in [0, 115, ROOM] {
-                caller.expect(ReadSlot(came, buffer), Err(1));
+                caller.expect(ReadSlot(came, buffer), Err(refusal));
             }
         }
         for (number, bytes, _) in SLOT_SIZES {

@@ -23,6 +23,7 @@ mod tool;
 mod tool_messages;
 mod tool_steps;
 mod tool_use;
+mod training;
 mod words;
 mod worked_burst;
 mod zero_fill;
@@ -52,6 +53,7 @@ pub fn all() -> Vec<NamedTest> {
         slots_writing::TESTS,
         slots_reading::TESTS,
         slots_refusals::TESTS,
+        training::TESTS,
         parts::TESTS,
         parts_states::TESTS,
         tool::TESTS,

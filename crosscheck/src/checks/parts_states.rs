@@ -52,7 +52,7 @@ fn archive_refuses_bursts_too_long_by_parts(given: &Given, test: &mut Test) {
         for byte in [0, 1, 2, 255] {
             let burst = lengthened(&good, length, byte);
             let expected = match length {
-                LONGEST => slot_found(link, &[7, 8, 9], 0, 0),
+                LONGEST => slot_found(link, &[7, 8, 9]),
                 _ => Err(2),
             };
             caller.expect(ReadParts::of_fresh(&[&burst], 128), expected.clone());
@@ -96,10 +96,7 @@ fn archive_tells_1505_from_1504(given: &Given, test: &mut Test) {
         let mut state = state_of(1505, &burst, &[]);
         caller.expect(ReadParts::of(&state, &[], 128), Err(2));
         state.count = 1504;
-        caller.expect(
-            ReadParts::of(&state, &[], 128),
-            slot_found(link, &datagram, 0, 0),
-        );
+        caller.expect(ReadParts::of(&state, &[], 128), slot_found(link, &datagram));
     }
 }
 
@@ -116,7 +113,7 @@ fn archive_reads_every_count(given: &Given, test: &mut Test) {
         let behind = random.bytes(LONGEST);
         for count in 0..=LONGEST {
             let expected = match count == length {
-                true => slot_found(link, &datagram, 0, 0),
+                true => slot_found(link, &datagram),
                 false => Err(2),
             };
             let state = state_of(count as u32, &burst, &behind);
@@ -138,7 +135,7 @@ fn archive_goes_on_from_every_count(given: &Given, test: &mut Test) {
         for count in 0..=length {
             let (start, end) = burst.split_at(count);
             let state = state_of(count as u32, start, &random.bytes(LONGEST));
-            let expected = slot_found(link, &datagram, 0, 0);
+            let expected = slot_found(link, &datagram);
             caller.expect(ReadParts::of(&state, &[end], bytes), expected);
         }
     }

@@ -7,7 +7,7 @@ use crate::harness::guarded::ROOM;
 use crate::harness::report::{named_tests, Given, NamedTest, Test};
 use crate::harness::requests::slots::ReadSlot;
 use crate::harness::samples::{
-    burst_of, random_datagram, slot_found, slot_with_wrong, two_places, SLOT_SIZES,
+    behind, burst_of, random_datagram, slot_found, slot_with_wrong, two_places, SLOT_SIZES,
 };
 use crate::outside::worked_burst::{self, WorkedBurst};
 use crate::second::bits::{bits, inverted};
@@ -31,11 +31,6 @@ pub const TESTS: &[NamedTest] = named_tests![
     archive_reads_slots_on_read_only_pages,
 ];
 
-/// Places that count from the start of a part, as places of the burst.
-fn behind(start: usize, places: Vec<usize>) -> Vec<usize> {
-    places.into_iter().map(|place| start + place).collect()
-}
-
 /// As it is printed, and with each of its places inverted.
 fn archive_reads_the_worked_burst(given: &Given, test: &mut Test) {
     let second = Second::read(&given.tables);
@@ -43,7 +38,7 @@ fn archive_reads_the_worked_burst(given: &Given, test: &mut Test) {
     let mut caller = Caller::new(test);
     let datagram = worked_burst::datagram();
     let burst = bits(&WorkedBurst::read(&given.tables).bits());
-    let expected = slot_found(link, &datagram, 0, 0);
+    let expected = slot_found(link, &datagram);
     caller.expect(ReadSlot(&burst, 32), expected);
     for place in 0..burst.len() {
         let burst = inverted(&burst, &[place]);
@@ -63,7 +58,7 @@ fn archive_reads_written_slots(given: &Given, test: &mut Test) {
         datagrams.extend((0..1000).map(|_| random_datagram(link, &mut random)));
         for datagram in datagrams {
             let burst = burst_of(&second, link, &datagram);
-            let expected = slot_found(link, &datagram, 0, 0);
+            let expected = slot_found(link, &datagram);
             caller.expect(ReadSlot(&burst, link.bytes()), expected);
         }
     }
@@ -80,7 +75,7 @@ fn archive_reads_back_the_slots_it_writes(given: &Given, test: &mut Test) {
             let mut datagram = random.bytes(count);
             let mut burst = vec![0; length];
             archive::write_slot(number, &mut datagram, &mut burst);
-            let expected = slot_found(link, &datagram, 0, 0);
+            let expected = slot_found(link, &datagram);
             caller.expect(ReadSlot(&burst, bytes), expected);
         }
     }

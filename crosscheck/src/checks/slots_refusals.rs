@@ -11,13 +11,16 @@ use crate::harness::samples::{burst_of, random_datagram, slot_found, SLOT_SIZES}
 use crate::outside::worked_burst::WorkedBurst;
 use crate::second::bits::{bits, inverted};
 use crate::second::slots::{HEAD, SLOT_LINKS, TRAINING};
+use crate::second::words::{Refusal, PLACES};
 use crate::second::Second;
 
 pub const TESTS: &[NamedTest] = named_tests![
     archive_orders_refusals_to_read_slots,
     archive_orders_mixed_faults_of_slots,
     archive_refuses_the_worked_burst_under_7,
-    archive_refuses_wrong_training,
+    archive_refuses_what_comes_behind_noisy_training,
+    archive_refuses_heads_with_noisy_training,
+    archive_refuses_non_bits_before_wrong_training,
     archive_reads_slots_under_every_word,
     archive_refuses_lengths_of_slots,
     archive_refuses_non_bits_in_slots,
@@ -58,26 +61,69 @@ fn archive_refuses_the_worked_burst_under_7(given: &Given, test: &mut Test) {
     }
 }
 
-/// Two to all of its bits wrong, both bits of one symbol, and the 27 symbols sent twice as single
-/// bits.
-fn archive_refuses_wrong_training(given: &Given, test: &mut Test) {
+/// What a refusal behind the training becomes where so many bits of the training are wrong.
+fn behind_training(wrong: usize, refusal: Refusal) -> Refusal {
+    match wrong {
+        0..=8 => refusal,
+        _ => 5,
+    }
+}
+
+/// Each of the refusals behind it, where none to twelve bits of the training are wrong: the answer holds
+/// no number of them.
+fn archive_refuses_what_comes_behind_noisy_training(given: &Given, test: &mut Test) {
     let second = Second::read(&given.tables);
     let mut random = test.random(502);
     let mut caller = Caller::new(test);
-    for number in SLOT_LINKS {
-        let link = second.links.of(number);
-        let written = burst_of(&second, link, &random_datagram(link, &mut random));
-        let many = (2..=TRAINING).map(|count| random.places(count, TRAINING));
-        let symbols = (0..TRAINING / 2).map(|symbol| vec![2 * symbol, 2 * symbol + 1]);
-        let wrong = many.chain(symbols).collect::<Vec<_>>();
-        for places in wrong {
-            let burst = inverted(&written, &places);
-            caller.expect(ReadSlot(&burst, link.bytes()), Err(5));
+    let training = bits(&second.training);
+    for wrong in (0..=12).collect::<Vec<_>>().repeat(10) {
+        let noisy = inverted(&training, &random.places(wrong, TRAINING));
+        for ((burst, buffer), refusal) in ordered_faults::behind_the_training(&second, &noisy) {
+            let refusal = behind_training(wrong, refusal);
+            caller.expect(ReadSlot(&burst, buffer), Err(refusal));
         }
-        let single = written[..TRAINING].iter().step_by(2).copied();
-        let single: Vec<u8> = single.cycle().take(TRAINING).collect();
-        let burst = [&single, &written[TRAINING..]].concat();
-        caller.expect(ReadSlot(&burst, link.bytes()), Err(5));
+    }
+}
+
+/// Heads alone, whole or cut short, with none to twelve bits of the training wrong: fewer than 86 bits
+/// come before all that is wrong in them.
+fn archive_refuses_heads_with_noisy_training(given: &Given, test: &mut Test) {
+    let second = Second::read(&given.tables);
+    let mut random = test.random(504);
+    let mut caller = Caller::new(test);
+    let training = bits(&second.training);
+    for wrong in (0..=12).collect::<Vec<_>>().repeat(5) {
+        let noisy = inverted(&training, &random.places(wrong, TRAINING));
+        for (number, refusal) in [(4, 1), (5, 2), (6, 2), (7, 2), (63, 1)] {
+            let word = bits(second.words.of(number));
+            let far = inverted(&word, &random.places(8, PLACES));
+            for (word, refusal) in [(word, refusal), (far, 6)] {
+                let head = [&noisy[..], &word].concat();
+                for length in [0, 1, 53, 54, 55, 84, 85] {
+                    caller.expect(ReadSlot(&head[..length], ROOM), Err(2));
+                }
+                let refusal = behind_training(wrong, refusal);
+                caller.expect(ReadSlot(&head, ROOM), Err(refusal));
+            }
+        }
+    }
+}
+
+/// In every place of the head, with none to twelve bits of the training wrong: refusal 4 comes first.
+fn archive_refuses_non_bits_before_wrong_training(given: &Given, test: &mut Test) {
+    let second = Second::read(&given.tables);
+    let mut random = test.random(505);
+    let mut caller = Caller::new(test);
+    let written = burst_of(&second, second.links.of(5), &[7, 8, 9]);
+    for place in 0..HEAD {
+        for wrong in 0..=12 {
+            let noisy = inverted(&written, &random.places(wrong, TRAINING));
+            for non_bit in [2, 3, 255] {
+                let mut burst = noisy.clone();
+                burst[place] = non_bit;
+                caller.expect(ReadSlot(&burst, 32), Err(4));
+            }
+        }
     }
 }
 
@@ -90,7 +136,7 @@ fn archive_reads_slots_under_every_word(given: &Given, test: &mut Test) {
         for number in 0..64 {
             burst[TRAINING..HEAD].copy_from_slice(&bits(second.words.of(number as usize)));
             let (expected, of_head) = match number {
-                _ if number == link.number => (slot_found(link, &[4, 5, 6], 0, 0), 2),
+                _ if number == link.number => (slot_found(link, &[4, 5, 6]), 2),
                 5..=7 => (Err(2), 2),
                 _ => (Err(1), 1),
             };

@@ -3,7 +3,9 @@
 use crate::harness::ordered_faults;
 use crate::harness::program::Run;
 use crate::harness::report::{named_tests, Given, NamedTest, Test};
-use crate::harness::samples::{burst_of, image_of, random_datagram, two_places, SLOT_SIZES};
+use crate::harness::samples::{
+    burst_of, filled, image_of, places_of_parts, random_datagram, two_places, SLOT_SIZES,
+};
 use crate::harness::tool::{done, hex_line, line, refused_bits, refused_for, runs};
 use crate::second::bits::{bits, inverted};
 use crate::second::slots::{HEAD, SLOT_LINKS, TRAINING};
@@ -18,9 +20,13 @@ pub const TESTS: &[NamedTest] = named_tests![
     tool_reads_blocks,
     tool_writes_slots,
     tool_reads_slots,
+    tool_tells_wrong_training,
     tool_refuses_slots,
     tool_reads_slots_by_parts,
 ];
+
+/// A command that reads a slot burst, and the same by parts.
+const READ_SLOT: [&str; 2] = ["read-slot -x", "read-slot -x --parts 43"];
 
 /// Numbers of no link and of no link word; the last ones end in the bits of link 5.
 const TOO_LARGE: [&str; 6] = [
@@ -197,14 +203,20 @@ fn tool_writes_slots(given: &Given, test: &mut Test) {
     }
 }
 
+/// The places of the training from this one on.
+fn from(start: usize) -> Vec<usize> {
+    (start..TRAINING).collect()
+}
+
 /// What reading a slot burst is to show, with -x.
 fn slot_read(second: &Second, burst: &[u8]) -> Run {
     match second.read_slot(burst, usize::MAX) {
         Ok(read) => {
             let (datagram, wrong) = (read.block.datagram, read.block.wrong);
-            let (link, word_wrong) = (read.link, read.word_wrong);
-            let counts = format!("count={} wrong={wrong}", datagram.len());
-            let counts = format!("{counts} link={link} word_wrong={word_wrong}");
+            let (word_wrong, training_wrong) = (read.word_wrong, read.training_wrong);
+            let counts = format!("count={} wrong={wrong} link={}", datagram.len(), read.link);
+            let counts =
+                format!("{counts} word_wrong={word_wrong} training_wrong={training_wrong}");
             done(hex_line(&datagram), counts)
         }
         Err(number) => slot_refused(second, burst, number),
@@ -234,21 +246,63 @@ fn slot_refused(second: &Second, burst: &[u8], number: Refusal) -> Run {
     refused_bits(number, burst, &what, size.map_or(0, |size| size.2))
 }
 
-/// Bursts with up to eight places of the word wrong, and with one or two of the block.
+/// Bursts with these numbers of wrong places in the training, in the word and in the block.
 fn tool_reads_slots(given: &Given, test: &mut Test) {
     let second = Second::read(&given.tables);
     let mut random = test.random(605);
-    for number in SLOT_LINKS {
-        let link = second.links.of(number);
-        for (in_word, in_block) in [(0, 0), (7, 0), (8, 0), (0, 1), (3, 1), (0, 2)] {
+    let wrong = [
+        [0, 0, 0],
+        [0, 7, 0],
+        [0, 8, 0],
+        [0, 0, 1],
+        [0, 3, 1],
+        [0, 0, 2],
+        [1, 0, 0],
+        [5, 3, 1],
+        [8, 7, 1],
+        [8, 8, 1],
+        [8, 7, 2],
+        [9, 0, 0],
+        [9, 8, 2],
+    ];
+    for link in SLOT_LINKS.map(|number| second.links.of(number)) {
+        for counts in wrong {
             let burst = burst_of(&second, link, &random_datagram(link, &mut random));
-            let of_word = random.places(in_word, HEAD - TRAINING);
-            let of_block = random.places(in_block, link.image_length());
-            let of_word = of_word.iter().map(|place| TRAINING + place);
-            let places = of_word.chain(of_block.iter().map(|place| HEAD + place));
-            let burst = inverted(&burst, &places.collect::<Vec<_>>());
-            let expected = slot_read(&second, &burst);
-            runs(given, test, "read-slot -x", &line(&burst), expected);
+            let burst = inverted(&burst, &places_of_parts(link, counts, &mut random));
+            for command in READ_SLOT {
+                let expected = slot_read(&second, &burst);
+                runs(given, test, command, &line(&burst), expected);
+            }
+        }
+    }
+}
+
+/// Document 02's K7 in the tool's own words: up to eight wrong bits of the training are counted, and
+/// more are refused.
+fn tool_tells_wrong_training(given: &Given, test: &mut Test) {
+    let second = Second::read(&given.tables);
+    let link = second.links.of(6);
+    let written = burst_of(&second, link, b"ok");
+    let places = [2, 3, 11, 20, 31, 32, 40, 52, 53];
+    for (count, told) in [
+        (0, "count=80 wrong=0 link=6 word_wrong=0 training_wrong=0"),
+        (1, "count=80 wrong=0 link=6 word_wrong=0 training_wrong=1"),
+        (8, "count=80 wrong=0 link=6 word_wrong=0 training_wrong=8"),
+    ] {
+        let burst = line(&inverted(&written, &places[..count]));
+        for command in READ_SLOT {
+            let expected = done(hex_line(&filled(link, b"ok")), told.to_string());
+            runs(given, test, command, &burst, expected);
+        }
+    }
+    for (places, got) in [
+        (&places[..], "9 of 54 bits differ, the first at place 2"),
+        (&from(45), "9 of 54 bits differ, the first at place 45"),
+        (&from(0), "54 of 54 bits differ, the first at place 0"),
+    ] {
+        let burst = line(&inverted(&written, places));
+        for command in READ_SLOT {
+            runs(given, test, command, &burst, refused_for(5, got));
         }
     }
 }
@@ -257,7 +311,7 @@ fn tool_reads_slots(given: &Given, test: &mut Test) {
 fn tool_refuses_slots(given: &Given, test: &mut Test) {
     let second = Second::read(&given.tables);
     for ((burst, _), _) in ordered_faults::reading_slots(&second) {
-        for command in ["read-slot -x", "read-slot -x --parts 43"] {
+        for command in READ_SLOT {
             let expected = slot_read(&second, &burst);
             runs(given, test, command, &line(&burst), expected);
         }
@@ -278,7 +332,8 @@ fn tool_reads_slots_by_parts(given: &Given, test: &mut Test) {
         for row in [
             inverted(&burst, &[TRAINING, HEAD]),
             inverted(&burst, &[HEAD, HEAD + 9]),
-            inverted(&burst, &[TRAINING - 1]),
+            inverted(&burst, &from(TRAINING - 8)),
+            inverted(&burst, &from(TRAINING - 9)),
             burst[1..].to_vec(),
             longer(1),
             longer(2000),

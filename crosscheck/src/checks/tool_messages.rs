@@ -357,7 +357,7 @@ fn tool_runs_the_readmes_script(given: &Given, test: &mut Test) {
 count=15
 count=51 start=29
 count=992
-count=80 wrong=0 link=6 word_wrong=0
+count=80 wrong=0 link=6 word_wrong=0 training_wrong=0
 0 14
 14 15
 count=2 finished=29

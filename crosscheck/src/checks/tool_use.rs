@@ -352,21 +352,31 @@ fn tool_works_in_pipes(given: &Given, test: &mut Test) {
     test.case(|| "word 5".into(), ("5\n".to_string(), Some(0)), [printed]);
 }
 
-/// The README's pipe, and its sentence on the seeds of which the one wrong bit is in the training.
+/// The README's pipe, its sentence on the seeds of which the one wrong bit is in the training: they are
+/// told, and none is refused; and that on two wrong bits.
 fn tool_runs_the_pipe_of_the_readme(given: &Given, test: &mut Test) {
-    let readme = |seed: u32, last: &str| {
+    let readme = |count: u32, seed: u32, last: &str| {
         let burst = "printf '5d 00 0e 0000000100000000 00 6f6b' | D write-slot 6 -x |";
         shell(
             given,
-            &format!("{burst}\n D damage 1 --seed {seed} | {last}"),
+            &format!("{burst}\n D damage {count} --seed {seed} | {last}"),
         )
     };
-    let printed = readme(7, "D read-slot | D step");
+    let printed = readme(1, 7, "D read-slot | D step");
     let expected = ("0 14\n".to_string(), Some(0));
     test.case(|| "the README's pipe".into(), expected, [printed]);
-    let refused = (1..=100).filter(|&seed| readme(seed, "D read-slot").1 == Some(1));
-    let call = || "the seeds 1 to 100 that are refused".to_string();
-    test.case(call, vec![3, 29, 58, 99], [refused.collect::<Vec<u32>>()]);
+    let told = |seed| readme(1, seed, "D read-slot 2>&1 >/dev/null");
+    let told: Vec<(String, Option<i32>)> = (1..=100).map(told).collect();
+    let of_training = "count=80 wrong=0 link=6 word_wrong=0 training_wrong=1\n";
+    let seeds = (1..=100).filter(|seed| told[seed - 1].0 == of_training);
+    let call = || "the seeds 1 to 100 that are wrong in the training".to_string();
+    test.case(call, vec![3, 29, 58, 99], [seeds.collect::<Vec<usize>>()]);
+    let refused = told.iter().filter(|(_, exit)| *exit != Some(0)).count();
+    test.case(|| "the seeds that are refused".into(), 0, [refused]);
+    let two = readme(2, 7, "D read-slot 2>&1 >/dev/null");
+    let expected = "decklewren: refusal 7: no valid block's image within one\n";
+    let call = || "two wrong bits".to_string();
+    test.case(call, (expected.to_string(), Some(1)), [two]);
 }
 
 /// Input or output that fails is told by an exit status of its own, and nothing is told as done: one

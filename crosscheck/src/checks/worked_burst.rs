@@ -76,6 +76,7 @@ fn second_reads_the_worked_burst(given: &Given, test: &mut Test) {
         },
         link: 5,
         word_wrong: 0,
+        training_wrong: 0,
     };
     let call = || "reading the slot burst".to_string();
     test.case(call, Ok(reading), [second.read_slot(&bits(&burst), 32)]);

@@ -27,13 +27,14 @@ pub struct BlockRead {
 }
 
 #[repr(C)]
-#[derive(Clone, Copy, Debug, PartialEq)]
+#[derive(Clone, Copy, Debug, Default, PartialEq)]
 pub struct SlotRead {
     pub status: u32,
     pub count: u32,
     pub wrong: u32,
     pub link: u32,
     pub word_wrong: u32,
+    pub training_wrong: u32,
 }
 
 #[repr(C)]

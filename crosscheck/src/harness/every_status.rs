@@ -14,11 +14,14 @@ pub fn requests(second: &Second) -> Vec<Answered> {
     [read(second), refused(second)].concat()
 }
 
-/// A burst of each link, and one of link 5 that is mended: two wrong in its word, one in its block.
+/// A burst of each link, one of link 5 with three wrong in its training, two in its word and one in its
+/// block, and one of link 6 with eight wrong in its training, two of them in one symbol.
 fn read(second: &Second) -> Vec<Answered> {
     let datagram = [93, 0, 9, 1, 2, 3, 4, 5, 6];
-    let wrong = [TRAINING, TRAINING + 31, HEAD + 200];
-    let read = [(5, &[][..]), (6, &[]), (7, &[]), (5, &wrong)].map(|(number, wrong)| {
+    let in_all = [0, 33, 53, TRAINING, TRAINING + 31, HEAD + 200];
+    let eight = [0, 1, 7, 20, 31, 32, 47, 53];
+    let wrong = [(5, &[][..]), (6, &[]), (7, &[]), (5, &in_all), (6, &eight)];
+    let read = wrong.map(|(number, wrong)| {
         let link = second.links.of(number);
         let burst = inverted(&burst_of(second, link, &datagram), wrong);
         let answer = slot_with_wrong(link, &datagram, wrong);
@@ -40,13 +43,14 @@ fn refused(second: &Second) -> Vec<Answered> {
         burst[TRAINING..HEAD].copy_from_slice(&bits(second.words.of(number)));
         burst
     };
-    let eight: Vec<usize> = (TRAINING..TRAINING + 8).collect();
+    let nine_of_training: Vec<usize> = (TRAINING - 9..TRAINING).collect();
+    let eight_of_word: Vec<usize> = (TRAINING..TRAINING + 8).collect();
     let too_long = [burst_of(second, second.links.of(7), &[]), vec![1; 40]].concat();
     let faults = [
         (good[..HEAD - 1].to_vec(), 32, 2),
         (with_non_bit(HEAD - 1), 32, 4),
-        (inverted(&good, &[TRAINING - 1]), 32, 5),
-        (inverted(&good, &eight), 32, 6),
+        (inverted(&good, &nine_of_training), 32, 5),
+        (inverted(&good, &eight_of_word), 32, 6),
         (under_word(8), 32, 1),
         (good[..good.len() - 1].to_vec(), 32, 2),
         (under_word(7), 128, 2),

@@ -3,7 +3,7 @@
 
 use crate::harness::ordered_faults::SlotRequest;
 use crate::harness::random::Random;
-use crate::harness::samples::{burst_of, random_datagram};
+use crate::harness::samples::{burst_of, places_of_parts, random_datagram};
 use crate::second::bits::{bits, inverted};
 use crate::second::links::Link;
 use crate::second::slots::{HEAD, TRAINING};
@@ -13,7 +13,8 @@ use crate::second::Second;
 #[derive(Clone, Copy, PartialEq)]
 enum Fault {
     HeadCutShort,
-    NonBitInHead,
+    NonBitInTraining,
+    NonBitInWord,
     WrongTraining,
     WordFarFromAll,
     WordOfNoSlot,
@@ -26,9 +27,10 @@ enum Fault {
 use Fault::*;
 
 /// The faults and their refusals, in document 01's order.
-const IN_ORDER: [(Fault, Refusal); 9] = [
+const IN_ORDER: [(Fault, Refusal); 10] = [
     (HeadCutShort, 2),
-    (NonBitInHead, 4),
+    (NonBitInTraining, 4),
+    (NonBitInWord, 4),
     (WrongTraining, 5),
     (WordFarFromAll, 6),
     (WordOfNoSlot, 1),
@@ -72,8 +74,11 @@ fn request(
         burst[TRAINING..HEAD].copy_from_slice(&bits(second.words.of(8 + random.below(56))));
     }
     let mut burst = inverted(&burst, &wrong_places(link, &has, random));
-    if has(NonBitInHead) {
-        burst[random.below(HEAD)] |= 2;
+    if has(NonBitInTraining) {
+        burst[random.below(TRAINING)] |= 2;
+    }
+    if has(NonBitInWord) {
+        burst[TRAINING + random.below(PLACES)] |= 2;
     }
     if has(NonBitInRest) {
         burst[HEAD + random.below(link.image_length())] |= 2;
@@ -92,18 +97,14 @@ fn request(
     (burst, buffer)
 }
 
-/// A word with eight wrong places is within seven of none: words differ in at least 16.
+/// Up to eight wrong places of the training are no fault. A word with eight wrong places is within
+/// seven of none: words differ in at least 16.
 fn wrong_places(link: &Link, has: &impl Fn(Fault) -> bool, random: &mut Random) -> Vec<usize> {
-    let parts = [
-        (WrongTraining, 1, 0, TRAINING),
-        (WordFarFromAll, 8, TRAINING, PLACES),
-        (TwoWrongInBlock, 2, HEAD, link.image_length()),
-    ];
-    let wrong = parts.into_iter().filter(|&(fault, ..)| has(fault));
-    wrong
-        .flat_map(|(_, count, start, length)| {
-            let places = random.places(count, length);
-            places.into_iter().map(move |place| start + place)
-        })
-        .collect()
+    let of_training = match has(WrongTraining) {
+        true => random.one_of(&[9, 10, TRAINING]),
+        false => random.below(9),
+    };
+    let of_word = if has(WordFarFromAll) { 8 } else { 0 };
+    let of_block = if has(TwoWrongInBlock) { 2 } else { 0 };
+    places_of_parts(link, [of_training, of_word, of_block], random)
 }

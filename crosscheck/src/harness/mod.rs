@@ -9,6 +9,7 @@ pub mod known_messages;
 pub mod lists;
 pub mod message_faults;
 pub mod mixed_faults;
+pub mod noise;
 pub mod ordered_faults;
 pub mod program;
 pub mod random;

@@ -3,7 +3,7 @@
 
 use crate::harness::samples::SLOT_SIZES;
 use crate::second::bits::{bits, inverted};
-use crate::second::slots::HEAD;
+use crate::second::slots::{HEAD, TRAINING};
 use crate::second::words::Refusal;
 use crate::second::Second;
 
@@ -126,47 +126,65 @@ pub fn reading_blocks(second: &Second) -> Vec<(BlockRequest, Refusal)> {
 /// A request to read a slot burst: what came, bytes of the buffer.
 pub type SlotRequest = (Vec<u8>, usize);
 
-/// Fewer than 86 bits, then a non-bit among the 86, wrong training, no word near, a word of no slot
-/// burst, the length of the rest, a buffer too short, a non-bit in the rest, and at last bits that
-/// no valid block's image is near to.
+/// Fewer than 86 bits, then a non-bit among the 86, nine wrong in the training, no word near, a word of
+/// no slot burst, the length of the rest, a buffer too short, a non-bit in the rest, and at last bits
+/// that no valid block's image is near to. What comes behind the training comes also where eight bits
+/// of it are wrong.
 pub fn reading_slots(second: &Second) -> Vec<(SlotRequest, Refusal)> {
     let training = bits(&second.training);
-    let word = |number: usize| bits(second.words.of(number));
-    let head = |word: Vec<u8>| [training.clone(), word].concat();
-    let non_bits_behind = |row: &[u8], count: usize| [row, &vec![2; count]].concat();
-    let far = inverted(&word(5), &[0, 1, 2, 3, 4, 5, 6, 7]);
-    let wrong_training = inverted(&training, &[53]);
+    let last: Vec<usize> = (TRAINING - 9..TRAINING).collect();
+    [
+        up_to_the_training(second, &inverted(&training, &last)),
+        behind_the_training(second, &training),
+        behind_the_training(second, &inverted(&training, &last[1..])),
+    ]
+    .concat()
+}
+
+fn non_bits_behind(row: &[u8], count: usize) -> Vec<u8> {
+    [row, &vec![2; count]].concat()
+}
+
+/// The word of link 5 with eight places wrong.
+fn far_from_all(second: &Second) -> Vec<u8> {
+    inverted(&bits(second.words.of(5)), &[0, 1, 2, 3, 4, 5, 6, 7])
+}
+
+/// The refusals 2, 4 and 5 of the head, under a training that is refused.
+fn up_to_the_training(second: &Second, training: &[u8]) -> Vec<(SlotRequest, Refusal)> {
+    let word = bits(second.words.of(5));
+    let far = far_from_all(second);
     let good = second.write_slot(5, &[3; 32], 480).expect("a burst");
-    let two_wrong = inverted(&good, &[HEAD, HEAD + 9]);
+    let refused = |rest: &[u8]| [training, rest].concat();
     vec![
         ((vec![], 0), 2),
         ((vec![2; 85], 0), 2),
         ((good[..85].to_vec(), 32), 2),
+        ((refused(&far[1..]), 0), 2),
         ((vec![2; 86], 0), 4),
         ((non_bits_behind(&[0; 85], 1), 0), 4),
-        (
-            (
-                non_bits_behind(&[&wrong_training[..], &far[1..]].concat(), 400),
-                0,
-            ),
-            4,
-        ),
+        ((non_bits_behind(&refused(&far[1..]), 400), 0), 4),
+        ((non_bits_behind(&refused(&word[1..]), 395), 32), 4),
         ((vec![0; 86], 0), 5),
         ((vec![0; 480], 0), 5),
-        (
-            (
-                non_bits_behind(&[&wrong_training[..], &far].concat(), 300),
-                0,
-            ),
-            5,
-        ),
-        (
-            (
-                non_bits_behind(&[wrong_training, word(5)].concat(), 394),
-                32,
-            ),
-            5,
-        ),
+        ((refused(&bits(second.words.of(4))), 0), 5),
+        ((refused(&word), 0), 5),
+        ((refused(&good[TRAINING..]), 31), 5),
+        ((refused(&good[TRAINING..]), 32), 5),
+        ((non_bits_behind(&refused(&far), 300), 0), 5),
+        ((non_bits_behind(&refused(&word), 394), 32), 5),
+    ]
+}
+
+/// The refusals that come behind a training that is read, under this one.
+pub fn behind_the_training(second: &Second, training: &[u8]) -> Vec<(SlotRequest, Refusal)> {
+    let word = |number: usize| bits(second.words.of(number));
+    let head = |word: Vec<u8>| [training, &word].concat();
+    let far = far_from_all(second);
+    let good = second.write_slot(5, &[3; 32], 480).expect("a burst");
+    let good = [training, &good[TRAINING..]].concat();
+    let two_wrong = inverted(&good, &[HEAD, HEAD + 9]);
+    vec![
         ((head(far.clone()), 0), 6),
         ((non_bits_behind(&head(far), 394), 31), 6),
         ((head(word(8)), 0), 1),

@@ -9,7 +9,7 @@ use crate::second::images::image;
 use crate::second::links::Link;
 use crate::second::parts::{State, LONGEST};
 use crate::second::slots::{SlotReading, HEAD, TRAINING};
-use crate::second::words::Refusal;
+use crate::second::words::{Refusal, PLACES};
 use crate::second::Second;
 use std::ops::Range;
 
@@ -109,35 +109,57 @@ pub fn burst_of(second: &Second, link: &Link, datagram: &[u8]) -> Vec<u8> {
         .expect("a burst is written")
 }
 
-/// What reading answers where the slot burst of this datagram is found.
-pub fn slot_found(
-    link: &Link,
-    datagram: &[u8],
-    wrong: u32,
-    word_wrong: u32,
-) -> Result<SlotReading, Refusal> {
-    Ok(SlotReading {
-        block: found(link, datagram, wrong)?,
-        link: link.number,
-        word_wrong,
-    })
+/// Places that count from the start of a part, as places of the burst.
+pub fn behind(start: usize, places: Vec<usize>) -> Vec<usize> {
+    places.into_iter().map(|place| start + place).collect()
 }
 
-/// What reading the slot burst of this datagram answers where these places are wrong, at most seven
-/// of them in the word and at most two in the block.
+/// So many places of the training, of the word and of the block, at random; two of the block with none,
+/// one or both of them where bits of the block stand.
+pub fn places_of_parts(
+    link: &Link,
+    [training, word, block]: [usize; 3],
+    random: &mut Random,
+) -> Vec<usize> {
+    let of_block = match block {
+        2 => two_places(link, random.below(3), random),
+        _ => random.places(block, link.image_length()),
+    };
+    [
+        random.places(training, TRAINING),
+        behind(TRAINING, random.places(word, PLACES)),
+        behind(HEAD, of_block),
+    ]
+    .concat()
+}
+
+/// What reading answers where the slot burst of this datagram came with nothing wrong.
+pub fn slot_found(link: &Link, datagram: &[u8]) -> Result<SlotReading, Refusal> {
+    slot_with_wrong(link, datagram, &[])
+}
+
+/// What reading the slot burst of this datagram answers where these places are wrong, at most eight
+/// of them in the word. It is known from how many there are in each part: nine in the training are
+/// refused, eight in the word, which are within seven of no word, and two in the block.
 pub fn slot_with_wrong(
     link: &Link,
     datagram: &[u8],
     places: &[usize],
 ) -> Result<SlotReading, Refusal> {
     let wrong_in = |part: Range<usize>| places.iter().filter(|&place| part.contains(place)).count();
-    if wrong_in(0..TRAINING) > 0 {
-        return Err(5);
-    }
-    let word_wrong = wrong_in(TRAINING..HEAD) as u32;
-    match wrong_in(HEAD..HEAD + link.image_length()) {
-        wrong @ 0..=1 => slot_found(link, datagram, wrong as u32, word_wrong),
-        _ => Err(7),
+    let (training, word) = (wrong_in(0..TRAINING), wrong_in(TRAINING..HEAD));
+    let block = wrong_in(HEAD..HEAD + link.image_length());
+    match (training, word, block) {
+        (9.., _, _) => Err(5),
+        (_, 9.., _) => panic!("nine wrong places of a word may be near to another word"),
+        (_, 8, _) => Err(6),
+        (_, _, 2..) => Err(7),
+        _ => Ok(SlotReading {
+            block: found(link, datagram, block as u32)?,
+            link: link.number,
+            word_wrong: word as u32,
+            training_wrong: training as u32,
+        }),
     }
 }
 

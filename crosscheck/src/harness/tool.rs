@@ -7,14 +7,14 @@ use crate::second::words::Refusal;
 use std::fmt::Display;
 use std::path::Path;
 
-/// Document 01, "Numbers a caller gets back": the words of the refusals 1 to 14, from 8 on as document
-/// 02's K1, K3 and K6 have them.
+/// Document 01, "Numbers a caller gets back": the words of the refusals 1 to 14, those of 5 as
+/// document 02's K7 has them, and those from 8 on as its K1, K3 and K6 do.
 const WORDS: [&str; 14] = [
     "link not offered; number above 63 for a link word; slot burst not of link 5, 6, 7",
     "datagram longer than the link holds; link word, block or slot burst of the wrong length",
     "output buffer too short",
     "a byte neither 0 nor 1",
-    "training differs",
+    "training differs in nine or more bits",
     "no code word within seven",
     "no valid block's image within one",
     "position or start past the end",

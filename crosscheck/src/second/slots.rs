@@ -1,7 +1,7 @@
 //! Writing and reading slot bursts, with the refusals in document 01's order (M.2092-1, Annex 3,
-//! Table 23; document 01, "Slot bursts").
+//! Table 23; document 01, "Slot bursts"; document 02, K7).
 
-use crate::second::bits::{bits, from_bytes};
+use crate::second::bits::{bits, differences, from_bytes};
 use crate::second::blocks::BlockReading;
 use crate::second::words::{Reading, Refusal};
 use crate::second::Second;
@@ -13,12 +13,13 @@ pub const SLOT_LINKS: [u32; 3] = [5, 6, 7];
 pub const TRAINING: usize = 54;
 pub const HEAD: usize = 86;
 
-/// A slot burst that was read.
+/// A slot burst that was read, with the counts of wrong places in its block, its word and its training.
 #[derive(Clone, Debug, PartialEq)]
 pub struct SlotReading {
     pub block: BlockReading,
     pub link: u32,
     pub word_wrong: u32,
+    pub training_wrong: u32,
 }
 
 impl Second {
@@ -52,7 +53,8 @@ impl Second {
         let (head, rest) = row.split_at(HEAD);
         let head = from_bytes(head).ok_or(4u32)?;
         let (training, word) = head.split_at(TRAINING);
-        if training != self.training {
+        let training_wrong = differences(training, &self.training);
+        if training_wrong >= 9 {
             return Err(5);
         }
         let Reading { number, wrong } = self.words.read(&bits(word))?;
@@ -63,6 +65,7 @@ impl Second {
             block: self.read_block(number, rest, buffer_length)?,
             link: number,
             word_wrong: wrong,
+            training_wrong: training_wrong as u32,
         })
     }
 }

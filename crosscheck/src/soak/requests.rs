@@ -164,9 +164,7 @@ fn some_burst(second: &Second, random: &mut Random) -> (Vec<u8>, usize) {
     if once_in(10, random) {
         row[TRAINING..HEAD].copy_from_slice(&bits(second.words.of(random.below(64))));
     }
-    if once_in(10, random) {
-        damage(&mut row[..TRAINING], 2, random);
-    }
+    damage(&mut row[..TRAINING], 12, random);
     damage(&mut row[TRAINING..HEAD], 10, random);
     damage(&mut row[HEAD..], 5, random);
     let row = lie(row, random);

@@ -6,9 +6,9 @@ use Rattle.answers.specs.Numbers.{done}
 use Rattle.answers.specs.Outcome.{Outcome}
 use Rattle.slots.specs.declared.Slot.{Slot}
 
--- a datagram, with the count of wrong places, the link and the count of wrong places of its word
-abbrev pub reading : List ℕ → ℕ → ℕ → ℕ → Outcome Slot
-reading datagram wrong link wordWrong = record {
-  answer = record { status = done; count = length datagram; wrong = wrong; link = link; «word_wrong» = wordWrong };
+-- a datagram, with the count of wrong places, the link and the counts of wrong places of its word and of its training
+abbrev pub reading : List ℕ → ℕ → ℕ → ℕ → ℕ → Outcome Slot
+reading datagram wrong link wordWrong trainingWrong = record {
+  answer = record { status = done; count = length datagram; wrong = wrong; link = link; «word_wrong» = wordWrong; «training_wrong» = trainingWrong };
   bytes = datagram;
 }

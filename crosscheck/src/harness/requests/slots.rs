@@ -76,22 +76,26 @@ impl Request for ReadWhole<'_> {
     }
 }
 
-/// What a reading call is to answer and to write.
+/// What a reading call is to answer and to write. A refusal answers 0 for all else and writes nothing.
 pub fn to_be_read(expected: Result<SlotReading, Refusal>) -> (SlotRead, Vec<u8>) {
-    let (status, written, wrong, link, word_wrong) = match expected {
-        Ok(SlotReading {
-            block,
-            link,
-            word_wrong,
-        }) => (0, block.datagram, block.wrong, link, word_wrong),
-        Err(status) => (status, vec![], 0, 0, 0),
-    };
-    let answer = SlotRead {
-        status,
-        count: written.len() as u32,
-        wrong,
-        link,
-        word_wrong,
-    };
-    (answer, written)
+    match expected {
+        Ok(read) => {
+            let answer = SlotRead {
+                status: 0,
+                count: read.block.datagram.len() as u32,
+                wrong: read.block.wrong,
+                link: read.link,
+                word_wrong: read.word_wrong,
+                training_wrong: read.training_wrong,
+            };
+            (answer, read.block.datagram)
+        }
+        Err(status) => {
+            let answer = SlotRead {
+                status,
+                ..SlotRead::default()
+            };
+            (answer, vec![])
+        }
+    }
 }

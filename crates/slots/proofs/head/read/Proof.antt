@@ -39,7 +39,6 @@ abbrev wrong : tie.After-struct-known → ℕ
 wrong c = c .before .before .before .wrong .result
 
 counted : (c : tie.After-struct-known) → wrong c ≡ trainingWrong (burst (whole (bits c)))
-unfolding trainingWrong
 counted c = c .before .before .before .wrong .ensures
 
 abbrev word : tie.After-struct-known → Word
@@ -48,7 +47,7 @@ word c = c .before .read .result
 head : (c : tie.Else3) → readHead (burst (whole (bits (c .before)))) ≡ namedHead (word (c .before)) (wrong (c .before))
 head c =
     let at = bits (c .before) in
-    head-word (burst (whole at)) (long (whole at)) (all at) (sym (c .before .before .read .ensures)) (sym (counted (c .before))) (equal (wrong (c .before)) 0 (c .if3 .left))
+    head-word (burst (whole at)) (long (whole at)) (all at) (sym (c .before .before .read .ensures)) (sym (counted (c .before))) (omega (arith, c .if3 .left))
 
 named : (c : tie.Else4) → word (c .before .before) .status ≡ done
 named c = equal (word (c .before .before) .status) done (c .if4 .left)
@@ -78,8 +77,7 @@ returns-3 : tie.Need-returns-3
 returns-3 c =
     let read = c .before .before in
     let at = bits read in
-    let untrained = unequal (wrong read) 0 (c .before .if3 .taken) in
-    c .refuse3 .ensures ∙ sym (head-no-training (burst (whole at)) (long (whole at)) (all at) (λ e. untrained (counted read ∙ e)))
+    c .refuse3 .ensures ∙ sym (head-no-training (burst (whole at)) (long (whole at)) (all at) (omega (arith, c .before .if3 .taken, counted read)))
 
 returns-4 : tie.Need-returns-4
 returns-4 c =
