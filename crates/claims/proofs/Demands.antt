@@ -29,7 +29,9 @@ use Rattle.parts.proofs.Hearing.{slot-sizes, longest-7}
 use Rattle.messages.proofs.Stepping.{step-goes, answer-inside, lie-exact, lie-inside, none-missing, spoilt-exact, finished-exact, found-exact}
 use Rattle.messages.proofs.Tiling.{walks-tile, walks-fill}
 use Rattle.messages.proofs.Walk.{walk-ends, walks-one}
-use Rattle.claims.specs.Demands.{Demand1, Demand2, Demand3}
+use Rattle.claims.specs.Demand1.{Demand1}
+use Rattle.claims.specs.Demand2.{Demand2}
+use Rattle.claims.specs.Demand3.{Demand3}
 use Rattle.claims.proofs.Blocks as blocks
 use Rattle.claims.proofs.Endings.{word-ends, task-ends, wrote-none, behind, determined}
 use Rattle.claims.proofs.Laying as laying

@@ -1,6 +1,6 @@
 -- Each call's number is that of the first line that applies: the ways that the calls go, against document 01's lines.
 -- Assumes nothing.
-use mathlib.Core.Path.{_≡_, sym, ap, _∙_}
+use mathlib.Core.Path.{_≡_, refl, sym, ap, _∙_}
 use mathlib.Core.Logic.{inl, inr}
 use mathlib.Core.Bool.{Bool, true, false, true≢false}
 use mathlib.Core.List.{List}
@@ -41,6 +41,11 @@ slot-status answer = answer .status
 -- a test that came out true did not come out false
 pub true-passes : {b : Bool} → b ≡ true → b ≡ false → ⊥
 true-passes t f = true≢false (sym t ∙ f)
+
+-- and one that did not come out false came out true
+pub not-false-true : (b : Bool) → (b ≡ false → ⊥) → b ≡ true
+not-false-true true h = refl
+not-false-true false h = absurd (h refl)
 
 -- ---- link words
 module _ (n : ℕ) (old new : List ℕ) (answer : Written) (wr : calls.WroteWord n old new answer) where

@@ -2,7 +2,7 @@
 -- Assumes nothing.
 use mathlib.Core.Path.{_≡_, refl, sym, ap, _∙_}
 use mathlib.Core.Logic.{_↔_, inl, inr}
-use mathlib.Core.Bool.{Bool, true, false}
+use mathlib.Core.Bool.{Bool, true}
 use mathlib.Core.List.{List, map}
 use Prim.Native.Nat.{ℕ, _≤_}
 use native.Mathlib.Omega.{arith}
@@ -37,7 +37,7 @@ use Rattle.slots.proofs.Writing.{long-burst}
 use Rattle.claims.specs.Lines.{Given}
 use Rattle.claims.specs.Calls.{WroteSlot, ReadSlot, named, wordLines, restLines, readSlotLines, SlotAnswer}
 use Rattle.claims.proofs.Lines.{one-number, never-given}
-use Rattle.claims.proofs.Numbers.{true-passes, reads-slot}
+use Rattle.claims.proofs.Numbers.{true-passes, not-false-true, reads-slot}
 use Rattle.claims.proofs.Tasks.{Met, met, done-met}
 use Rattle.claims.proofs.Endings.{Kind, Ends, refuses, answers, laid-in, refused-with, given-in}
 
@@ -76,11 +76,6 @@ ending (r.reads link wrong h s a u n e) = answers (record { link = link; wrong =
 
 pub ends : (burst : List ℕ) (room : ℕ) → Ends (readers burst room) (readSlot burst room)
 ends burst room = ending (r.reading-goes burst room)
-
--- a test that did not come out false came out true
-not-false-true : (b : Bool) → (b ≡ false → ⊥) → b ≡ true
-not-false-true true h = refl
-not-false-true false h = absurd (h refl)
 
 -- ---- what an outcome says of the answer
 module _ (burst old new : List ℕ) (answer : Slot) (wr : ReadSlot burst old new answer) where

@@ -1,4 +1,6 @@
 pub mod Calls
 pub mod Cases
-pub mod Demands
+pub mod Demand1
+pub mod Demand2
+pub mod Demand3
 pub mod Lines
