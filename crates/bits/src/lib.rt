@@ -1,5 +1,7 @@
 // Bits one to a byte (document 01, "What the module does"): the test that a byte is a bit, bits as a number and back, what is laid
 // over a buffer, and the number of places where two words or two rows differ.
+#![tactic(auto)]
+
 ghost use Rattle.std.specs.Prelude.{◌≡◌, map, true, ◌+◌, ◌*◌, ◌≤◌, min, length, take, drop};
 ghost use Rattle.std.specs.Int.Bits.{bit_xor};
 ghost use Rattle.std.specs.Int.Count.{ones};
