@@ -1,4 +1,6 @@
 // The links that are offered (M.2092-1, Table 4; document 01, "The links", and document 02, K4), with the patterns and tails that they use.
+#![tactic(auto)]
+
 mod flags;
 
 ghost use Rattle.std.specs.Prelude.{◌≡◌, ◌<◌, ◌≤◌, ltb, length, get_or};
