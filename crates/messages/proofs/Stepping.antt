@@ -10,7 +10,7 @@ use native.Mathlib.Omega.{arith}
 use lib.Dec.{ltb}
 use lib.ListN.{length, drop, length-drop}
 use borrow.Author.Tests.{ltb-true, ltb-false}
-use Rattle.answers.specs.Numbers.{past_end, broken_fill, message_past_end}
+use Rattle.answers.specs.Numbers.{broken_fill, message_past_end}
 use Rattle.messages.specs.declared.Step.{Step}
 use Rattle.messages.specs.Fill.{only_zeros}
 use Rattle.messages.specs.Places.{byte_at, PassedOver, Behind, ZerosFrom, NoneLeft, Spoilt, Begins, total_at, Tells, few_left_lie, small_length_lie, past_the_end, LieAt, Whole}

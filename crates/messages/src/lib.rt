@@ -1,4 +1,6 @@
 // Stepping through the messages of a datagram (document 01, "Messages in a datagram"; document 02, K1 and K3; M.2092-1, Annex 4, 4.9).
+#![tactic(auto)]
+
 ghost use Rattle.std.specs.Prelude.{◌≡◌, ◌-◌, ◌<◌, ◌≤◌, length, get_or};
 ghost use Rattle.messages.specs.Fill.{only_zeros};
 ghost use Rattle.messages.specs.Step.{refused, finished, message, lie, declared_length, zeros_at, message_at, step_message};
