@@ -1,4 +1,6 @@
 // The 32-bit check (M.2092-1, Annex 2, 1.2.5): the register over rows of bits, and the bit that it tells of.
+#![tactic(auto)]
+
 mod bytes;
 
 ghost use Rattle.std.specs.Prelude.{◌≡◌, map};

@@ -4,12 +4,8 @@ use Rattle.bits.specs.Row.{high_first}
 use Rattle.bits.specs.Xor.{◌⊕◌}
 use Rattle.check32.specs.Working.Bytes.{marks_from, byte_marks}
 use Rattle.check32.specs.Check.{times_x, step, register_from}
-use Rattle.check32.proofs.bytes.marks.Statement.{statement}
-use Rattle.check32.proofs.bytes.marks.Tie as tie
+use Rattle.check32.proofs.bytes.marks.Goals as goal
 
-returns : tie.Need-returns
+pub returns : goal.returns
 unfolding byte_marks marks_from high_first ◌⊕◌ times_x step register_from
 returns c = refl
-
-pub marks-spec : {M : Type 1} → statement M
-marks-spec = tie.close (tie.spec returns)
