@@ -1,4 +1,6 @@
 // Link words (M.2092-1, Annex 2, 1.2.3.4): a number 0 to 63 as a word of 32 bits, and back.
+#![tactic(auto)]
+
 ghost use Rattle.std.specs.Prelude.{◌≡◌, ◌<◌, length};
 ghost use Rattle.answers.specs.Outcome.{Wrote};
 ghost use Rattle.words.specs.Word.{word_of};
