@@ -1,4 +1,6 @@
 // The scrambler (M.2092-1, Annex 2, 1.2.6): a register of fifteen cells, kept as a number below 2^15 whose highest digit is cell 1.
+#![tactic(auto)]
+
 ghost use Rattle.std.specs.Prelude.{◌≡◌, ◌^◌, ◌<◌, ◌≤◌, length};
 ghost use Rattle.scrambler.specs.Scrambler.{loading_word};
 ghost use Rattle.scrambler.specs.Working.Scrambles.{Scrambles};
