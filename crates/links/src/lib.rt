@@ -10,7 +10,7 @@ ghost use Rattle.links.specs.Sizes.{open_bits, bytes_held, image_length};
 pub use flags::{clocks, pattern, tail};
 
 // A row of Table 4. A pattern or tail is named by its printed name as a hexadecimal number: 0x7a is pattern 7a.
-#[derive(Drop)]
+#[derive(Clone, Copy)]
 pub struct Row {
     pub link: u32,
     pub k: u32,

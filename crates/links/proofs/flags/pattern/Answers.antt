@@ -1,4 +1,5 @@
 -- Each name has its clocks, and any other none. Assumes nothing.
+use borrow.Author.Rules.{rules}
 use Rattle.links.specs.Patterns.{patterns, clocks_in}
 use Rattle.links.specs.Working.Padded.{padded}
 use Rattle.links.proofs.Names.{no-clocks}
@@ -30,4 +31,4 @@ returns-in-8 c = rw c.in-8.is
 
 pub returns-in_default : goal.returns-in_default
 unfolding patterns padded
-returns-in_default c = rw (no-clocks Unit patterns _ c.in_default.in_default-own.rest)
+returns-in_default c = rw (no-clocks Unit patterns c.args.name (search rules))

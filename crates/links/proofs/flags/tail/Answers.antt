@@ -1,4 +1,5 @@
 -- Each name has its clocks, and any other none. Assumes nothing.
+use borrow.Author.Rules.{rules}
 use Rattle.links.specs.Patterns.{tails, clocks_in}
 use Rattle.links.specs.Working.Padded.{padded}
 use Rattle.links.proofs.Names.{no-clocks}
@@ -42,4 +43,4 @@ returns-in-139 c = rw c.in-139.is
 
 pub returns-in_default : goal.returns-in_default
 unfolding tails padded
-returns-in_default c = rw (no-clocks Unit tails _ c.in_default.in_default-own.rest)
+returns-in_default c = rw (no-clocks Unit tails c.args.name (search rules))
