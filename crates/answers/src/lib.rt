@@ -4,7 +4,7 @@ ghost use Rattle.answers.specs.Written.{refused, wrote};
 
 // The answer of every writing call: how many bytes it laid at the buffer's start.
 #[repr(C)]
-#[derive(Drop)]
+#[derive(Clone, Copy)]
 pub struct Written {
     pub status: u32,
     pub count: u32,

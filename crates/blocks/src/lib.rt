@@ -5,7 +5,7 @@ ghost use Rattle.blocks.specs.Calls.{refused};
 
 // What reading a block answers: the bytes of its datagram, and in how many places its image differs from what came.
 #[repr(C)]
-#[derive(Drop)]
+#[derive(Clone, Copy)]
 pub struct Block {
     pub status: u32,
     pub count: u32,

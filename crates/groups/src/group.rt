@@ -14,7 +14,7 @@ use clocks::lay;
 use encoder::{last, many, packed, y0, y1};
 
 // What 24 clocks put out, X Y0 Y1 X' Y'0 Y'1 a number each, and the registers after them.
-#[derive(Drop)]
+#[derive(Clone, Copy)]
 pub struct Put {
     pub bits: [u32; 8],
     pub a: u32,

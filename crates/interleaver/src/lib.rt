@@ -13,7 +13,7 @@ use adding::{reduced, stepped, times};
 use links::Row;
 
 // What row i of pairs starts with: the place of its first input, its t, and how far each of its pairs lies from the one before.
-#[derive(Drop)]
+#[derive(Clone, Copy)]
 struct Start {
     i: usize,
     place: usize,

@@ -7,7 +7,7 @@ ghost use Rattle.message_writer.specs.Calls.{refused, laid, write_message, zero_
 
 // What laying answers: how many bytes were laid. A zero fill can be longer than 32 bits count.
 #[repr(C)]
-#[derive(Drop)]
+#[derive(Clone, Copy)]
 pub struct Laid {
     pub status: u32,
     pub count: u64,

@@ -9,7 +9,7 @@ ghost use Rattle.messages.specs.Working.Turn.{Says};
 // What a step answers: where a message starts, also one that lies, its length, and how many bytes are missing of one that runs past the
 // end.
 #[repr(C)]
-#[derive(Drop)]
+#[derive(Clone, Copy)]
 pub struct Step {
     pub status: u32,
     pub start: u64,
@@ -18,7 +18,7 @@ pub struct Step {
 }
 
 // What a step of a bounded number of turns comes to: its answer, or the place behind the fill that it passed over.
-#[derive(Drop)]
+#[derive(Clone, Copy)]
 enum Turn {
     Answer(Step),
     Onward(usize),

@@ -7,7 +7,7 @@ ghost use Rattle.printer_text.specs.Lines.{padded, lines_of, text_of};
 use words::Word;
 
 // The printed bytes stand at the start, and zeros behind them.
-#[derive(Drop)]
+#[derive(Clone, Copy)]
 pub struct Text {
     pub bytes: [u8; 32],
     pub count: usize,

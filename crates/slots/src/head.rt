@@ -10,7 +10,7 @@ use words::Word;
 
 // What reading the head answers: its link, the wrong bits of its link word and of its training, and how long the rest is to be.
 #[repr(C)]
-#[derive(Drop)]
+#[derive(Clone, Copy)]
 pub struct Head {
     pub status: u32,
     pub link: u32,

@@ -9,7 +9,7 @@ pub use writer::write;
 
 // What reading a slot burst answers: what reading its block does, its link, and the wrong bits of the link word and of the training.
 #[repr(C)]
-#[derive(Drop)]
+#[derive(Clone, Copy)]
 pub struct Slot {
     pub status: u32,
     pub count: u32,

@@ -10,7 +10,7 @@ use answers::Written;
 
 // What reading a link word answers.
 #[repr(C)]
-#[derive(Drop)]
+#[derive(Clone, Copy)]
 pub struct Word {
     pub status: u32,
     pub number: u32,
