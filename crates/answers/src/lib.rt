@@ -1,4 +1,6 @@
 // What a writing call answers: document 01, "Numbers a caller gets back". The status stands first, and a refusal answers 0 for all else.
+#![tactic(auto)]
+
 ghost use Rattle.std.specs.Prelude.{◌≡◌};
 ghost use Rattle.answers.specs.Written.{refused, wrote};
 
