@@ -1,5 +1,7 @@
 // The interleaver (M.2092-1, Annex 2, 1.2.4.3; document 01, "From datagram to block"). Positions are had one from another by adding and
 // subtracting (document 02, K5): pair by pair along a row, and row by row.
+#![tactic(auto)]
+
 mod adding;
 
 ghost use Rattle.std.specs.Prelude.{◌≡◌, true, map, ◌+◌, ◌*◌, ◌/◌, ◌%◌, ◌^◌, ◌<◌, T, length};
