@@ -1,6 +1,8 @@
 // One encoder (M.2092-1, Annex 2, 1.2.4.2; document 01, "From datagram to block"). Its register is a number below 8 whose bits are
 // a(t-1), a(t-2), a(t-3), the first the lowest. Every clock shifts its a in at the low end: in the number of a register and the clocks
 // behind it, be it one or 24, a clock finds the three bits that it adds one, two and three places above its own.
+#![tactic(auto)]
+
 mod inputs;
 
 ghost use Rattle.std.specs.Prelude.{◌≡◌, [], ◌∷◌, ◌≤◌, ◌<◌};

@@ -3,7 +3,6 @@ use mathlib.Core.Bool.{xor}
 use mathlib.Core.List.{[], ◌∷◌}
 use Prim.Native.Nat.{◌*◌, ◌%◌, ◌^◌}
 use lib.Bits.{bit_or, bit_xor}
-use borrow.Author.Rules.{rules}
 use Rattle.bits.specs.Bits.{is_one, byte}
 use Rattle.bits.specs.Row.{number_on}
 use Rattle.turbo.specs.Encoder.{feedback}
@@ -11,15 +10,11 @@ use Rattle.turbo.specs.Outputs.{outputs}
 use Rattle.encoder.specs.Working.Number.{register_of, number_of}
 use Rattle.encoder.specs.Working.Fed.{fed_on}
 use Rattle.encoder.proofs.Number.{agree}
-use Rattle.encoder.proofs.one.Statement.{statement}
-use Rattle.encoder.proofs.one.Tie as tie
+use Rattle.encoder.proofs.one.Goals as goal
 
-returns : tie.Need-returns
+pub returns : goal.returns
 unfolding register_of number_of fed_on number_on outputs xor
 returns c =
-    let p = c.before.requires in
+    let p = c.requires in
     rw c.feedback.ensures
     (agree (λ r u. bit_or (r * 2 % 2 ^ 32) (bit_xor u (byte (feedback (register_of r))))) (λ r u. fed_on (register_of r) (is_one u ∷ [])) tt _ _ p.0 p.1)
-
-pub one_spec : {M : Type 1} → statement M
-one_spec = tie.close (tie.spec (λ c κs. search rules) returns)

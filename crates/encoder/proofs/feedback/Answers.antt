@@ -7,12 +7,8 @@ use Rattle.lists.proofs.Line.{line}
 use Rattle.bits.specs.Bits.{byte}
 use Rattle.turbo.specs.Encoder.{feedback}
 use Rattle.encoder.specs.Working.Number.{register_of}
-use Rattle.encoder.proofs.feedback.Statement.{statement}
-use Rattle.encoder.proofs.feedback.Tie as tie
+use Rattle.encoder.proofs.feedback.Goals as goal
 
-returns : tie.Need-returns
+pub returns : goal.returns
 unfolding register_of xor
 returns c = eqb→eq _ _ (line 8 (λ r. eqb (bit_and (bit_xor (r / 2) (r / 4)) 1) (byte (feedback (register_of r)))) tt c.args.register c.requires)
-
-pub feedback-spec : {M : Type 1} → statement M
-feedback-spec = tie.close (tie.spec returns)

@@ -9,10 +9,9 @@ use Rattle.bits.specs.Xor.{◌⊕◌}
 use Rattle.bits.proofs.Row.{length-high_first, number-high_first}
 use Rattle.encoder.specs.Working.Number.{register_of, number_of}
 use Rattle.encoder.proofs.Feed.{fifteen, brought, fed-once}
-use Rattle.encoder.proofs.many.Statement.{statement}
-use Rattle.encoder.proofs.many.Tie as tie
+use Rattle.encoder.proofs.many.Goals as goal
 
-returns : tie.Need-returns
+pub returns : goal.returns
 unfolding ◌⊕◌ register_of number_of
 returns c =
     let r = c.args.register in
@@ -20,6 +19,3 @@ returns c =
     let is : number_of (register_of r) ≡ r = eqb→eq _ _ (line 8 (λ n. eqb (number_of (register_of n)) n) tt r c.requires.0) in
     ap (λ (x : ℕ). bit_or (r * 16777216 % 2 ^ 32) (fifteen (x ⊕ brought r))) (sym (number-high_first 24 i c.requires.1))
     ∙ fed-once (register_of r) (high_first 24 i) (length-high_first 24 i) (sym is)
-
-pub many-spec : {M : Type 1} → statement M
-many-spec = tie.close (tie.spec returns)
