@@ -55,8 +55,8 @@ pub fn next(register: u32, u: u8) -> u32
 
 // Lays one bit as often as its flag says; answers the place behind.
 fn pass(flag: u8, bit: u8, at: usize, out: &mut [u8]) -> usize
-    requires fact_1 { flag ≤ 2 }
-    requires fact_2 { Room at (replicate flag bit) out.old }
+    requires twice { flag ≤ 2 }
+    requires room { Room at (replicate flag bit) out.old }
     ensures { Lays at (replicate flag bit) out.old out.new result }
 {
     if flag == 0 {
@@ -72,8 +72,8 @@ fn pass(flag: u8, bit: u8, at: usize, out: &mut [u8]) -> usize
 
 // Lays what the flags of a clock pass on of its six bits.
 pub fn lay(flags: [u8; 6], bits: [u8; 6], at: usize, out: &mut [u8]) -> usize
-    requires fact_1 { AtMostTwice flags }
-    requires fact_2 { Room at (passed flags bits) out.old }
+    requires twice { AtMostTwice flags }
+    requires room { Room at (passed flags bits) out.old }
     ensures { Lays at (passed flags bits) out.old out.new result }
 {
     let mut to = at;

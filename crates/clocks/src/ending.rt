@@ -42,8 +42,8 @@ fn end_one(
     at: usize,
     out: &mut [u8],
 ) -> usize
-    requires fact_1 { (from ≤ 3) × (register < 8) × AllAtMostTwice tail }
-    requires fact_2 { Room at (map byte (ending_of second (slice from (from + 3) tail) (register_of register))) out.old }
+    requires small { (from ≤ 3) × (register < 8) × AllAtMostTwice tail }
+    requires room { Room at (map byte (ending_of second (slice from (from + 3) tail) (register_of register))) out.old }
     ensures { Lays at (map byte (ending_of second (slice from (from + 3) tail) (register_of register))) out.old out.new result }
 {
     let mut to = at;
@@ -58,8 +58,8 @@ fn end_one(
 
 // Lays the ending of both, the registers a and b.
 pub fn end(tail: [[u8; 6]; 6], a: u32, b: u32, at: usize, out: &mut [u8]) -> usize
-    requires fact_1 { (a < 8) × (b < 8) × AllAtMostTwice tail }
-    requires fact_2 { Room at (map byte (ending tail (register_of a) (register_of b))) out.old }
+    requires small { (a < 8) × (b < 8) × AllAtMostTwice tail }
+    requires room { Room at (map byte (ending tail (register_of a) (register_of b))) out.old }
     ensures { Lays at (map byte (ending tail (register_of a) (register_of b))) out.old out.new result }
 {
     let to = end_one(tail, 0, false, a, at, out);

@@ -1,5 +1,7 @@
 // The clocks of a block one by one (M.2092-1, Annex 2, 1.2.4; document 01, "From datagram to block"): what both encoders put out and the
 // pattern passes on, and the ending.
+#![tactic(auto)]
+
 mod clock;
 mod ending;
 
@@ -34,8 +36,8 @@ pub fn lay_rest(
     place: usize,
     out: &mut [u8],
 ) -> usize
-    requires fact_1 { ReadyFrom u.now v.now pattern period tail from a b }
-    requires fact_2 { Room place (left (take period pattern) tail u.now v.now from (register_of a) (register_of b)) out.old }
+    requires ready { ReadyFrom u.now v.now pattern period tail from a b }
+    requires room { Room place (left (take period pattern) tail u.now v.now from (register_of a) (register_of b)) out.old }
     ensures { Lays place (left (take period pattern) tail u.now v.now from (register_of a) (register_of b)) out.old out.new result }
 {
     let mut at = place;
