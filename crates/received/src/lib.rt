@@ -1,4 +1,6 @@
 // The k bits of what came: unscrambled, and then the X of every clock.
+#![tactic(auto)]
+
 ghost use Rattle.std.specs.Prelude.{◌≡◌, true, map, T, length};
 ghost use Rattle.bits.specs.Bits.{is_one, byte, all_bits};
 ghost use Rattle.distance.specs.Working.Coding.{x_bits};
