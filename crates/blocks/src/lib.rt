@@ -1,5 +1,7 @@
 // Blocks (document 01, "From datagram to block"): what a datagram's block and its image are, what the calls on them answer, and their laws.
 // The code stands above, in block_writer and block_reader.
+#![tactic(auto)]
+
 ghost use Rattle.std.specs.Prelude.{◌≡◌};
 ghost use Rattle.blocks.specs.Calls.{refused};
 
