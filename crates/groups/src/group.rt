@@ -87,8 +87,8 @@ fn wide(place: u8) -> usize
 
 // Lays what stands at the first `count` places of a group.
 pub fn lay_digits(all: [u32; 8], places: &[u8], count: usize, at: usize, out: &mut [u8]) -> usize
-    requires fact_1 { count ≤ length places.now }
-    requires fact_2 { Room at (map (digit all) (take count places.now)) out.old }
+    requires counted { count ≤ length places.now }
+    requires room { Room at (map (digit all) (take count places.now)) out.old }
     ensures { Lays at (map (digit all) (take count places.now)) out.old out.new result }
 {
     for i in 0..count {

@@ -1,5 +1,7 @@
 // The coded bits of a block (M.2092-1, Annex 2, 1.2.4; document 01, "From datagram to block"): its clocks in groups of 24, and what is
 // behind the last group clock by clock.
+#![tactic(auto)]
+
 mod group;
 
 ghost use Rattle.lists.specs.Over.{Room};
@@ -18,8 +20,8 @@ pub fn encode(
     tail: [[u8; 6]; 6],
     out: &mut [u8],
 ) -> usize
-    requires fact_1 { Ready u.now v.now pattern period tail }
-    requires fact_2 { Room 0 (coded_bytes u.now v.now pattern period tail) out.old }
+    requires ready { Ready u.now v.now pattern period tail }
+    requires room { Room 0 (coded_bytes u.now v.now pattern period tail) out.old }
     ensures { Lays 0 (coded_bytes u.now v.now pattern period tail) out.old out.new result }
 {
     let limit = group::limit(u.len(), period);
