@@ -1,4 +1,6 @@
 // From the bytes that came to the bytes that are printed (document 01, "The link word printer").
+#![tactic(auto)]
+
 ghost use Rattle.std.specs.Prelude.{◌≡◌, map, ◌+◌, ◌<◌, length};
 ghost use Rattle.words.specs.Calls.{read_word, found, refused};
 ghost use Rattle.printer_text.specs.Line.{bit_of, line_of};
