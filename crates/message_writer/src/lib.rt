@@ -1,4 +1,6 @@
 // Laying messages and zero fill into a datagram (document 02, K6; M.2092-1, Annex 4, 4.9).
+#![tactic(auto)]
+
 ghost use Rattle.std.specs.Prelude.{◌≡◌, ◌∷◌, ◌++◌, ◌+◌, ◌-◌, ◌≤◌, length};
 ghost use Rattle.lists.specs.Over.{over};
 ghost use Rattle.answers.specs.Outcome.{WroteAt};
