@@ -1,4 +1,6 @@
 // From the bits of a block to its image: interleaved, coded, ended and scrambled. The writer and the reader of blocks share this encoder.
+#![tactic(auto)]
+
 mod scratch;
 
 ghost use Rattle.std.specs.Prelude.{◌≡◌, true, map, ◌≤◌, T, length};
