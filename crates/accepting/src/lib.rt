@@ -1,5 +1,7 @@
 // Accepting a block for what came (document 01, "Numbers a caller gets back"): whether its bits over are zero, in how many places its image
 // differs, and its datagram where these are few enough. Whoever proposes the block chooses the limit, and the refusal beyond it.
+#![tactic(auto)]
+
 ghost use Rattle.std.specs.Prelude.{◌≡◌, true, map, ◌+◌, ◌≤◌, min, T, length};
 ghost use Rattle.answers.specs.Outcome.{Wrote};
 ghost use Rattle.bits.specs.Bits.{is_one, all_bits, all_zero};
