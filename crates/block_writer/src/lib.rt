@@ -1,4 +1,6 @@
 // Writing a block (document 01, "From datagram to block"): a datagram as the image of its block.
+#![tactic(auto)]
+
 ghost use Rattle.std.specs.Prelude.{◌≡◌, map, ◌≤◌, T, length};
 ghost use Rattle.answers.specs.Outcome.{Wrote};
 ghost use Rattle.bits.specs.Bits.{byte};
