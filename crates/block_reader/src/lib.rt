@@ -1,5 +1,7 @@
 // Reading a block (document 01, "Numbers a caller gets back"): the one block that may stand for what came is made of its k bits, and
 // answered if it is valid and its image is within one place of what came.
+#![tactic(auto)]
+
 ghost use Rattle.std.specs.Prelude.{◌≡◌, true, map, ◌≤◌, length};
 ghost use Rattle.answers.specs.Outcome.{Wrote};
 ghost use Rattle.bits.specs.Bits.{is_one, all_bits};
