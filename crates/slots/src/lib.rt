@@ -1,4 +1,6 @@
 // Slot bursts (M.2092-1, Annex 3, Table 23; document 01, "Slot bursts"): training, link word and block.
+#![tactic(auto)]
+
 mod head;
 mod reader;
 mod training;
