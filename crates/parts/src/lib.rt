@@ -1,5 +1,7 @@
 // Slot bursts that come in parts (document 02, K2). The state is the caller's, a count and the bytes that are kept: any number and any
 // bytes may stand there.
+#![tactic(auto)]
+
 ghost use Rattle.std.specs.Prelude.{◌≡◌, length};
 ghost use Rattle.answers.specs.Outcome.{Wrote};
 ghost use Rattle.slots.specs.Calls.{read_slot};
