@@ -2,7 +2,6 @@
 use Rattle.std.specs.Prelude.{◌≡◌, false, List, ℕ, ◌+◌, length, take, drop}
 use Rattle.answers.specs.declared.Written.{Written}
 use Rattle.answers.specs.Numbers.{done, message_past_end}
-use Rattle.turbo.specs.Interleaver.{position}
 use Rattle.words.specs.declared.Word.{Word}
 use Rattle.blocks.specs.declared.Block.{Block}
 use Rattle.slots.specs.declared.Slot.{Slot}
