@@ -1,6 +1,8 @@
 // The exported calls, tied to the claims: each function calls one of them by its exported name and ensures the very relation that the
 // theorems of claims speak of, so an export with a weaker contract is refused here. A datagram that is lent is one of bytes, a source is of
 // 32 bits, and the array of a state has 1,504 bytes.
+#![tactic(auto)]
+
 ghost use Rattle.std.specs.Prelude.{◌≡◌, true, ◌<◌, length};
 ghost use Rattle.bits.specs.Datagram.{all_bytes};
 ghost use Rattle.parts.specs.State.{longest, state};
@@ -29,8 +31,8 @@ pub fn read_word(bits: &[u8]) -> Word
 }
 
 pub fn write_block(link: u32, datagram: &[u8], out: &mut [u8]) -> Written
-    ensures fact_1 { WroteBlock link datagram.now out.old out.new result }
-    ensures fact_2 { all_bytes datagram.now ≡ true }
+    ensures wrote { WroteBlock link datagram.now out.old out.new result }
+    ensures bytes { all_bytes datagram.now ≡ true }
 {
     decklewren::decklewren_write_block(link, datagram, out)
 }
@@ -42,8 +44,8 @@ pub fn read_block(link: u32, bits: &[u8], out: &mut [u8]) -> Block
 }
 
 pub fn write_slot(link: u32, datagram: &[u8], out: &mut [u8]) -> Written
-    ensures fact_1 { WroteSlot link datagram.now out.old out.new result }
-    ensures fact_2 { all_bytes datagram.now ≡ true }
+    ensures wrote { WroteSlot link datagram.now out.old out.new result }
+    ensures bytes { all_bytes datagram.now ≡ true }
 {
     decklewren::decklewren_write_slot(link, datagram, out)
 }
