@@ -10,7 +10,7 @@
 # make against OTHER=ARCHIVE: this archive's times and ratios to those of another, say an earlier one, measured in one run.
 # make stack: bytes of stack that each call takes, against what the header says.
 # make picture: draws docs/slot-burst.svg again, from the header's numbers.
-# make clean: removes build/; the proofs and the archive in target/ stay.
+# make clean: removes build/; the proofs in crates/*/out/ stay.
 # make help: these lines. CC and CFLAGS are the caller's where they are given.
 .PHONY: help run tool install uninstall check-install test refusals soak bench against build/other.a stack picture clean prefix
 .DEFAULT_GOAL := help
@@ -20,7 +20,7 @@ CC = gcc
 endif
 CFLAGS ?= -O2 -Wall -Wextra -Wpedantic
 COMPILE = $(CC) -std=c11 $(CPPFLAGS) $(CFLAGS) -Iinclude
-ARCHIVE = target/staticlib/libdecklewren.a
+ARCHIVE = build/libdecklewren.a
 HEADER = include/decklewren.h
 VERSION = $(shell awk '/^.define DECKLEWREN_VERSION_/ {text = text dot $$3; dot = "."} END {print text}' $(HEADER))
 PREFIX ?= /usr/local
@@ -33,7 +33,7 @@ help:
 run: build/example build/ice_notice
 	@$(NEED_RT)
 	@bash host/prove.sh build/printer.log rt check link_word_printer
-	target/bin/link_word_printer <crates/link_word_printer/stdin
+	rt run link_word_printer <crates/link_word_printer/stdin
 	build/example
 	build/ice_notice
 
@@ -76,8 +76,8 @@ check-install:
 
 $(ARCHIVE): crates.txt $(wildcard crates/*/src/*.rt) | build
 	@$(NEED_RT)
-	@bash host/prove.sh build/staticlib.log rt staticlib decklewren
-	@echo proved decklewren
+	@bash host/prove.sh build/staticlib.log rt lib decklewren_c
+	cp crates/decklewren_c/out/libdecklewren_c.a $@
 
 build:
 	mkdir -p build
@@ -92,7 +92,7 @@ refusals:
 CALLS ?= 1000000
 SEED ?= 1
 soak: $(ARCHIVE)
-	CARGO_TARGET_DIR=build/crosscheck DECKLEWREN_ARCHIVE_DIR="$(CURDIR)/target/staticlib" \
+	CARGO_TARGET_DIR=build/crosscheck DECKLEWREN_ARCHIVE_DIR="$(CURDIR)/build" \
 	  cargo build --release --offline --locked --quiet --manifest-path crosscheck/Cargo.toml
 	build/crosscheck/release/crosscheck soak crosscheck/tables $(CALLS) $(SEED)
 

@@ -6,7 +6,7 @@ use std::{env, fs};
 fn main() {
     println!("cargo::rerun-if-env-changed=DECKLEWREN_ARCHIVE_DIR");
     let folder =
-        env::var("DECKLEWREN_ARCHIVE_DIR").unwrap_or_else(|_| "../target/staticlib".to_string());
+        env::var("DECKLEWREN_ARCHIVE_DIR").unwrap_or_else(|_| "../build".to_string());
     let archive = fs::canonicalize(&folder)
         .map(|folder| folder.join("libdecklewren.a"))
         .unwrap_or_else(|error| panic!("no folder {folder} for the archive: {error}"));

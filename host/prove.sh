@@ -1,11 +1,11 @@
 #!/usr/bin/env bash
-# prove.sh LOG COMMAND...: runs a command of rt, with all that it prints in LOG, and says 'proved NAME' for each crate as it is
-# proved now, not where it was before. Where the command fails, LOG is shown.
+# prove.sh LOG COMMAND...: runs a command of rt, with all that it prints in LOG, and says 'proving NAME' for each crate as it is
+# begun. Where the command fails, LOG is shown.
 set -u
 log=$1
 shift
 set -o pipefail
-"$@" 2>&1 | tee "$log" | sed -un 's/^rt: \([a-z0-9_]*\) proved ([0-9]* s)$/proved \1/p'
+"$@" 2>&1 | tee "$log" | sed -un 's/^rt: chose .* for \([a-z0-9_]*\)$/proving \1/p'
 status=$?
 [ "$status" -eq 0 ] || cat "$log" >&2
 exit "$status"

@@ -1,9 +1,12 @@
 -- The test comes before the datagram is laid. Assumes nothing.
+use borrow.Author.Rules.{rules}
+use mir.Syntax.{w8}
+use mir.Val.{Fits}
 use mathlib.Core.Path.{◌≡◌, sym, ap₂, ◌∙◌}
 use mathlib.Core.List.{map}
 use Prim.Native.Nat.{◌≤◌}
 use native.Mathlib.Omega.{arith}
-use lib.ListN.{length-map}
+use lib.ListN.{length-map, get_or}
 use Rattle.answers.proofs.Wrote.{refuses, lays}
 use Rattle.bits.specs.Bits.{is_one}
 use Rattle.bits.specs.Row.{differences}
@@ -43,7 +46,7 @@ returns c =
     (near_answered _ _ _ _ _ (omega (arith, count, (few (goal.at.returns c).Else-wrong-limit))))
     (c.answer.ensures ∙ ap₂ found (held ∙ sym (length-datagram a.row (map is_one a.u.now))) count)
     (datagram-laid a.row (map is_one a.u.now) a.out.now _ held
-    (bytes-known a.out.now (λ i. (c.slice_known-2-1.given i).fits))
+    (bytes-known a.out.now (λ i. let byte : Fits w8 (get_or a.out.now i 0) = search rules in byte.fits))
     (omega (arith, held, length-map a.u.now is_one, c.requires.1, (sizes a.row c.requires.0.good).whole))
     (omega (arith, held, c.requires.4))
     c.pack.ensures)
