@@ -1,5 +1,5 @@
 // What C calls (include/decklewren.h): the exports of the static library, each a call of the library's function of its name with the same
-// clauses again (.ci/exports compares them).
+// clauses again (.ci/weakened compares them).
 #![tactic(auto)]
 
 ghost use Rattle.std.specs.Prelude.{◌≡◌, length};
