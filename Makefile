@@ -32,8 +32,8 @@ help:
 
 run: build/example build/ice_notice
 	@$(NEED_RT)
-	@bash host/prove.sh build/printer.log rt check link_word_printer
-	rt run link_word_printer <crates/link_word_printer/stdin
+	@cd crates/link_word_printer && bash ../../host/prove.sh ../../build/printer.log rt check
+	cd crates/link_word_printer && rt run <stdin
 	build/example
 	build/ice_notice
 
@@ -76,7 +76,7 @@ check-install:
 
 $(ARCHIVE): crates.txt $(wildcard crates/*/src/*.rt) | build
 	@$(NEED_RT)
-	@bash host/prove.sh build/staticlib.log rt lib decklewren_c
+	@cd crates/decklewren_c && bash ../../host/prove.sh ../../build/staticlib.log rt lib
 	cp crates/decklewren_c/out/libdecklewren_c.a $@
 
 build:
