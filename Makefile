@@ -32,8 +32,8 @@ help:
 
 run: build/example build/ice_notice
 	@$(NEED_RT)
-	@cd crates/link_word_printer && bash ../../host/prove.sh ../../build/printer.log rt check
-	cd crates/link_word_printer && rt run <stdin
+	@cd crates/link_word_printer && bash ../../host/prove.sh ../../build/printer.log rt run <stdin
+	crates/link_word_printer/out/link_word_printer <crates/link_word_printer/stdin
 	build/example
 	build/ice_notice
 
