@@ -4,7 +4,7 @@
 # make uninstall: removes these four files, for the same PREFIX and DESTDIR.
 # make check-install: installs both ways below build/, compiles the README's example against each tree and removes it again.
 # make test: the gate, as .ci/run runs it; ends 'N passed, 0 failed'.
-# make refusals: the first error of each must-fail edit, from the logs of the last gate.
+# make refusals: the first error of each must-fail edit, from the log of the last gate.
 # make soak: not in the gate. CALLS calls of each kind, random, damaged and malformed, the archive against the second implementation.
 # make bench: nanoseconds per block and ratios to a plain writer in C, and of slot bursts by parts to whole ones, measured in one run.
 # make against OTHER=ARCHIVE: this archive's times and ratios to those of another, say an earlier one, measured in one run.
