@@ -1,5 +1,5 @@
-// The exported calls, tied to the claims: each function calls one of them by its exported name and ensures the very relation that the
-// theorems of claims speak of, so an export with a weaker contract is refused here. A datagram that is lent is one of bytes, a source is of
+// The exported calls, tied to the claims: each function calls the library's of that name and ensures the very relation that the theorems of
+// claims speak of, so a call with a weaker contract is refused here; the exports of decklewren_c have the same contracts. A datagram that is lent is one of bytes, a source is of
 // 32 bits, and the array of a state has 1,504 bytes.
 #![tactic(auto)]
 
