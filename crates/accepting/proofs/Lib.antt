@@ -1,3 +1,1 @@
-pub mod BitsOver
-pub mod Comparing
-pub mod Within
+pub mod Packed

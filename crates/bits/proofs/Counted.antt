@@ -1,16 +1,18 @@
 -- The places where two rows of bits differ, counted place by place.
 -- Assumes nothing.
 use mathlib.Core.Path.{◌≡◌, refl}
-use mathlib.Core.Bool.{true}
-use mathlib.Core.List.{List, map}
-use Prim.Native.Nat.{ℕ, zero, suc, ◌+◌, ◌<◌, ◌≤◌}
-use native.Mathlib.Numerals.{add-one}
+use mathlib.Core.Bool.{Bool, true, false, not}
+use mathlib.Core.List.{List, [], ◌∷◌, map}
+use Prim.Native.Nat.{ℕ, zero, suc, ◌≤◌}
 use native.Mathlib.Omega.{arith}
-use lib.ListN.{length, get_or, drop, drop_of_length-le}
-use lib.Seq.{drop-cons}
+use borrow.Author.Tests.{leb-true, eqb-true, eqb-false}
+use lib.Dec.{leb, eqb}
+use lib.ListN.{length}
+use Rattle.std.specs.List.{filter, zip}
+use Rattle.lists.specs.Every.{every}
+use Rattle.lists.proofs.Tests.{both_true}
 use Rattle.bits.specs.Bits.{is_one, all_bits}
 use Rattle.bits.specs.Row.{differ, differences}
-use Rattle.bits.proofs.Bits.{bit_low}
 use Rattle.bits.proofs.Flip.{differ_self}
 
 pub differ_same : (x y : ℕ) → x ≡ y → differ (is_one x) (is_one y) ≡ 0
@@ -25,23 +27,23 @@ differ-other zero (suc (suc y)) h l ne = absurd (omega arith)
 differ-other (suc zero) (suc (suc y)) h l ne = absurd (omega arith)
 differ-other (suc (suc x)) y h l ne = absurd (omega arith)
 
--- what is left to count at i
-abbrev pub left_at : List ℕ → List ℕ → ℕ → ℕ
-left_at a b i = differences (map is_one (drop i a)) (map is_one (drop i b))
+-- two bytes that are not the same
+abbrev pub apart : ℕ × ℕ → Bool
+apart pair = not (eqb pair.0 pair.1)
 
-module _ (a b : List ℕ) (long : length a ≡ length b) where
-  pub left_more : (i : ℕ) → i < length a → left_at a b i ≡ differ (is_one (get_or a i 0)) (is_one (get_or b i 0)) + left_at a b (i + 1)
-  unfolding differences
-  left_more i h = rw (drop-cons a i 0 h, drop-cons b i 0 (omega arith), add-one)
-
-  pub left-same : (i : ℕ) → i < length a → get_or a i 0 ≡ get_or b i 0 → left_at a b i ≡ left_at a b (i + 1)
-  left-same i h e = omega (arith, left_more i h, differ_same (get_or a i 0) (get_or b i 0) e)
-
-  pub left-done : (i : ℕ) → length a ≤ i → left_at a b i ≡ 0
-  unfolding differences
-  left-done i h = rw (drop_of_length-le a {i = i} h, drop_of_length-le b {i = i} (omega arith))
-
-  module _ (bits : all_bits a ≡ true) (bits' : all_bits b ≡ true) where
-    pub left_other : (i : ℕ) → i < length a → (get_or a i 0 ≡ get_or b i 0 → ⊥) → left_at a b i ≡ left_at a b (i + 1) + 1
-    left_other i h ne =
-        omega (arith, left_more i h, differ-other (get_or a i 0) (get_or b i 0) (bit_low a bits i) (bit_low b bits' i) ne)
+-- the places where two rows of bits are not the same, counted, are those where they differ
+pub counted : (a b : List ℕ) → length a ≡ length b → all_bits a ≡ true → all_bits b ≡ true
+    → length (filter apart (zip a b)) ≡ differences (map is_one a) (map is_one b)
+unfolding every differences
+counted [] [] long bits bits' = refl
+counted [] (y ∷ b) long bits bits' = absurd (omega arith)
+counted (x ∷ a) [] long bits bits' = absurd (omega arith)
+counted (x ∷ a) (y ∷ b) long bits bits' =
+    let p = both_true (leb x 1) (all_bits a) bits in
+    let q = both_true (leb y 1) (all_bits b) bits' in
+    by (eqb x y) refl (leb-true x 1 p.0) (leb-true y 1 q.0) (counted a b (omega arith) p.1 q.1)
+  where
+    by : (same : Bool) → eqb x y ≡ same → x ≤ 1 → y ≤ 1 → length (filter apart (zip a b)) ≡ differences (map is_one a) (map is_one b)
+        → length (filter apart (zip (x ∷ a) (y ∷ b))) ≡ differences (map is_one (x ∷ a)) (map is_one (y ∷ b))
+    by true e h l rest = rw e (omega (arith, rest, differ_same x y (eqb-true x y e)))
+    by false e h l rest = rw e (omega (arith, rest, differ-other x y h l (eqb-false x y e)))

@@ -2,19 +2,18 @@
 -- Assumes nothing.
 use mathlib.Core.Path.{◌≡◌, refl, sym, ap, ap₂, ◌∙◌}
 use mathlib.Core.Bool.{Bool, true, false}
-use mathlib.Core.List.{List, [], ◌∷◌, ◌++◌, map, append_assoc}
+use mathlib.Core.List.{List, [], ◌∷◌, ◌++◌, append_assoc}
 use Prim.Native.Nat.{ℕ, zero, suc, ◌+◌, ◌-◌, ◌*◌, ◌≤◌, ◌<◌}
 use native.Mathlib.Nat.{pow-le-pow_right, zero-lt-suc}
 use native.Mathlib.Omega.{arith}
 use borrow.Author.Tests.{ltb-true, lt-ltb}
 use lib.Dec.{ltb}
 use lib.ListN.{length, take, drop, replicate, length-append, length-replicate, length-take, length-drop, take-append-drop, replicate-append-replicate}
-use lib.Seq.{take_at, drop_at, take-append-le, take-append-add, drop-append-add, take-take, take-nil, drop-nil, length-take-le, drop-drop}
+use lib.Seq.{take_at, drop_at, take-append-le, take-append-add, drop-append-add, take-take, take-nil, drop-nil, length-take-le}
 use Rattle.lists.specs.Every.{every}
 use Rattle.lists.proofs.Every.{every_append, every-replicate}
-use Rattle.lists.proofs.Parts.{drop-take, map-take, map-drop}
+use Rattle.lists.proofs.Parts.{drop-take}
 use Rattle.lists.proofs.Tests.{both_true}
-use Rattle.bits.specs.Bits.{is_one}
 use Rattle.bits.specs.Row.{high_first, number}
 use Rattle.bits.specs.Datagram.{all_bytes, bits_of, filled, as_bytes}
 use Rattle.bits.proofs.Row.{length-high_first, number-high_first, high_first-number, number_lt}
@@ -88,31 +87,13 @@ as_bytes-filled : (m n : ℕ) (row : List Bool) → m * 8 ≤ n → as_bytes m (
 as_bytes-filled m n row h = sym (as_bytes-take m (filled n row)) ∙ ap (as_bytes m) (take-filled (m * 8) n row h)
 
 -- what they make are bytes
-pub byte_small : (row : List Bool) → number (take 8 row) < 256
-byte_small row = omega (arith, number_lt (take 8 row), pow-le-pow_right {n = 2} (zero-lt-suc 1) {i = length (take 8 row)} {j = 8} (simp length-take (omega arith)))
+pub byte_small : (row : List Bool) → length row ≤ 8 → number row < 256
+byte_small row h = omega (arith, number_lt row, pow-le-pow_right {n = 2} (zero-lt-suc 1) {i = length row} {j = 8} h)
 
 pub as_bytes_small : (m : ℕ) (row : List Bool) → all_bytes (as_bytes m row) ≡ true
 unfolding as_bytes every
 as_bytes_small zero row = refl
-as_bytes_small (suc m) row = rw (lt-ltb (number (take 8 row)) 256 (byte_small row)) (as_bytes_small m (drop 8 row))
-
--- the bits behind byte j
-pub after-byte : (j : ℕ) (row : List ℕ) → map is_one (drop ((j + 1) * 8) row) ≡ drop 8 (map is_one (drop (j * 8) row))
-after-byte j row = let next : (j + 1) * 8 ≡ j * 8 + 8 = omega arith in rw (next, ← drop-drop 8 (j * 8) row) (map-drop is_one 8 (drop (j * 8) row))
-
--- byte by byte: what is left to lay at j begins with the byte that the row's next eight bits make
-pub bytes_more : (m j : ℕ) (row : List ℕ) → j < m
-    → as_bytes (m - j) (map is_one (drop (j * 8) row)) ≡ number (take 8 (map is_one (drop (j * 8) row))) ∷ as_bytes (m - (j + 1)) (map is_one (drop ((j + 1) * 8) row))
-unfolding as_bytes
-bytes_more m j row h = let left : m - j ≡ suc (m - (j + 1)) = omega arith in rw (left, after-byte j row)
-
-pub bytes-done : (m j : ℕ) (row : List ℕ) → m ≤ j → as_bytes (m - j) (map is_one (drop (j * 8) row)) ≡ []
-unfolding as_bytes
-bytes-done m j row h = let none : m - j ≡ 0 = omega arith in rw none
-
--- the eight bits of a part that is lent
-pub part_bits : (at : ℕ) (row : List ℕ) → map is_one (take (at + 8 - at) (drop at row)) ≡ take 8 (map is_one (drop at row))
-part_bits at row = let eight : at + 8 - at ≡ 8 = omega arith in rw eight (map-take is_one 8 (drop at row))
+as_bytes_small (suc m) row = rw (lt-ltb (number (take 8 row)) 256 (byte_small (take 8 row) (simp length-take (omega arith)))) (as_bytes_small m (drop 8 row))
 
 -- ---- there and back
 pub as_bytes-bits_of : (datagram : List ℕ) → all_bytes datagram ≡ true → as_bytes (length datagram) (bits_of datagram) ≡ datagram

@@ -1,13 +1,15 @@
 -- A row cut or filled with zero bits to a length.
 -- Assumes nothing.
-use mathlib.Core.Path.{◌≡◌, refl, sym, ap, ◌∙◌}
+use mathlib.Core.Path.{◌≡◌, refl, sym, ap, ap₂, ◌∙◌}
 use mathlib.Core.Bool.{Bool, false}
 use mathlib.Core.List.{List, [], ◌∷◌, ◌++◌, append_assoc}
 use Prim.Native.Nat.{ℕ, zero, suc, ◌+◌, ◌-◌, ◌≤◌}
-use native.Mathlib.Nat.{zero-add, suc-add, sub-zero, zero-sub, suc-sub-suc, le_of_eq}
+use native.Mathlib.Nat.{sub-zero, zero-sub, suc-sub-suc, le_of_eq}
+use native.Mathlib.Numerals.{add-one}
 use native.Mathlib.Omega.{arith}
-use lib.ListN.{length, take, drop, replicate, drop_of_length-le, length-append, length-replicate, replicate-append-replicate}
+use lib.ListN.{length, get_or, take, drop, replicate, drop_of_length-le, length-append, length-replicate, replicate-append-replicate}
 use lib.Seq.{length-take-le, take_all, take-append-le, take-append-add, take-take}
+use Rattle.std.proofs.lemmas.Grind.{replicate_next}
 use Rattle.lists.proofs.Parts.{take-replicate, drop-replicate}
 use Rattle.bits.specs.Datagram.{filled}
 
@@ -35,7 +37,7 @@ take-filled m n row h =
     ∙ take-append-le m (row ++ replicate m false) (replicate (n - m) false) (simp (length-append, length-replicate) (omega arith))
 
 -- bit by bit
-pub filled-nil : (n : ℕ) → filled n [] ≡ replicate n false
+filled-nil : (n : ℕ) → filled n [] ≡ replicate n false
 unfolding filled
 filled-nil n = take_all n (replicate n false) (le_of_eq (length-replicate n false))
 
@@ -43,13 +45,18 @@ filled-cons : (n : ℕ) (b : Bool) (row : List Bool) → filled (suc n) (b ∷ r
 unfolding filled
 filled-cons n b row = ap {B = List Bool} (λ l. b ∷ l) (sym (take-take n (suc n) (row ++ replicate (suc n) false) (omega arith)) ∙ take-filled n (suc n) row (omega arith))
 
--- some bits and a row behind them
-pub filled-append : (n : ℕ) (front row : List Bool) → filled (length front + n) (front ++ row) ≡ front ++ filled n row
-filled-append n [] row = rw zero-add
-filled-append n (b ∷ front) row = rw suc-add (filled-cons (length front + n) b (front ++ row) ∙ ap {B = List Bool} (λ l. b ∷ l) (filled-append n front row))
+-- one bit more
+pub filled_more : (n : ℕ) (row : List Bool) → filled (n + 1) row ≡ filled n row ++ get_or row n false ∷ []
+unfolding filled
+filled_more n row = rw add-one (more n row)
+  where
+    more : (n : ℕ) (row : List Bool) → filled (suc n) row ≡ filled n row ++ get_or row n false ∷ []
+    more n [] = rw (filled-nil (suc n), filled-nil n) (rw add-one at (replicate_next n false))
+    more zero (b ∷ row) = filled-cons 0 b row
+    more (suc n) (b ∷ row) = filled-cons (suc n) b row ∙ ap₂ ◌∷◌ refl (more n row) ∙ ap (λ l. l ++ get_or row n false ∷ []) (sym (filled-cons n b row))
 
 -- what is left from a place on is the rest of the row, filled
-pub filled-rest : (i n : ℕ) (row : List Bool) → drop i (filled n row) ≡ filled (n - i) (drop i row)
+filled-rest : (i n : ℕ) (row : List Bool) → drop i (filled n row) ≡ filled (n - i) (drop i row)
 filled-rest zero n row = rw sub-zero
 filled-rest (suc i) zero row = rw zero-sub (unfold filled in refl)
 filled-rest (suc i) (suc n) [] = ap (drop (suc i)) (filled-nil (suc n)) ∙ drop-replicate (suc i) (suc n) false ∙ sym (filled-nil (suc n - suc i))

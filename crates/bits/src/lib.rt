@@ -1,64 +1,53 @@
-// Bits one to a byte (document 01, "What the module does"): the test that a byte is a bit, bits as a number and back, what is laid
-// over a buffer, and the number of places where two words or two rows differ.
+// Bits in rows (document 01, "What the module does"): the test that a byte is a bit, bits as a number and back, what is laid over a
+// buffer, and the number of places where two words or two rows differ.
 #![tactic(auto)]
 
-ghost use Rattle.std.specs.Prelude.{◌≡◌, map, true, ◌+◌, ◌*◌, ◌≤◌, min, length, take, drop};
+mod bit;
+
+ghost use Rattle.std.specs.Prelude.{◌≡◌, ◌↔◌, map, true, ◌<◌, ◌≤◌, leb, length, take, drop, IsNone, IfSome};
+ghost use Rattle.std.specs.Bool.{then_some};
 ghost use Rattle.std.specs.Int.Bits.{bit_xor};
 ghost use Rattle.std.specs.Int.Count.{ones};
 ghost use Rattle.lists.specs.Over.{over, Room};
-ghost use Rattle.bits.specs.Bits.{all_bits, byte, is_one};
+ghost use Rattle.bits.specs.Bits.{all_bits, is_one};
 ghost use Rattle.bits.specs.Row.{high_first, number, differences};
+
+pub use bit::Bit;
 
 // Whether every byte is 0 or 1.
 pub fn all_bits(bytes: &[u8]) -> bool
     ensures { result ≡ all_bits bytes.now }
 {
-    for i in 0..bytes.len() {
-        if bytes[i] > 1 {
-            return false;
-        }
-    }
-    true
-}
-
-// The bit that a byte holds.
-fn bit_in(b: u8) -> u32
-    ensures { result ≡ byte (is_one b) }
-{
-    if b == 1 { 1 } else { 0 }
+    bytes.iter().all(|&byte| byte <= 1)
 }
 
 // The number that a row of up to 32 bits makes, the first the highest.
-pub fn number_of(row: &[u8]) -> u32
+#[tactic(auto, using(crate::proofs::Row::number_more, crate::proofs::Row::number_small), unfolding(crate::specs::Row::number_on))]
+pub fn number_of<B: Bit>(row: &[B]) -> u32
     requires { length row.now ≤ 32 }
-    ensures { result ≡ number (map is_one row.now) }
+    ensures { result ≡ number (map B.value row.now) }
 {
     let mut word: u32 = 0;
-    for i in 0..row.len() {
-        word = word * 2 + bit_in(row[i]);
+    for &cell in row {
+        word = word * 2 + u32::from(cell.is_one());
     }
     word
 }
 
-// Lays the `count` lowest bits of a number, the highest of them first, over a buffer from a place on.
-pub fn lay_bits(word: u32, count: usize, out: &mut [u8], at: usize)
-    requires { (count ≤ 32) × (at + count ≤ length out.old) }
-    ensures { out.new ≡ over at (map byte (high_first count word)) out.old }
+// Lays the lowest bits of a number, the highest of them first, one to each cell of a row.
+pub fn lay_bits<B: Bit>(word: u32, row: &mut [B])
+    requires { length row.old ≤ 32 }
+    ensures { row.new ≡ map B.holding (high_first (length row.old) word) }
 {
-    for i in 0..count {
-        out[at + i] = ((word >> (count - (i + 1))) % 2) as u8;
+    let mut behind = row.len();
+    for cell in row {
+        behind -= 1;
+        *cell = B::from_bit((word >> behind) % 2 == 1);
     }
 }
 
-// Lays the 32 bits of a number, the highest first, over a buffer from a place on.
-pub fn lay_row(word: u32, out: &mut [u8], at: usize)
-    requires { at + 32 ≤ length out.old }
-    ensures { out.new ≡ over at (map byte (high_first 32 word)) out.old }
-{
-    lay_bits(word, 32, out, at);
-}
-
-// Lays bytes, bits or not, over a buffer from a place on.
+// Lays bytes, bits or not, over a buffer from a place on, which callers have beside the buffer. It is a loop over indices, since
+// copy_from_slice is compiled here into memmove, which the archive must not ask of a host (host/archive.symbols).
 pub fn lay_bytes(bytes: &[u8], out: &mut [u8], at: usize)
     requires { Room at bytes.now out.old }
     ensures { out.new ≡ over at bytes.now out.old }
@@ -68,32 +57,28 @@ pub fn lay_bytes(bytes: &[u8], out: &mut [u8], at: usize)
     }
 }
 
-// Byte j of a row of bits, the first of its eight the highest.
-pub fn byte_at(row: &[u8], j: usize) -> u8
-    requires { j * 8 + 8 ≤ length row.now }
-    ensures { result ≡ number (take 8 (map is_one (drop (j * 8) row.now))) }
+// The byte that a row of bits begins with, the first of its eight the highest, and the bits behind it.
+#[tactic(auto, using(crate::proofs::Datagram::byte_small))]
+pub fn split_byte(row: &[bool]) -> Option<(u8, &[bool])>
+    ensures short { IsNone result ↔ (length row.now < 8) }
+    ensures split { IfSome result (λ (byte, behind). (byte ≡ number (take 8 row.now)) × (behind.now ≡ drop 8 row.now)) }
 {
-    let at = j * 8;
-    number_of(&row[at..at + 8]) as u8
+    let (eight, behind) = row.split_first_chunk::<8>()?;
+    Some((number_of(eight) as u8, behind))
 }
 
 // In how many places two words differ.
 pub fn distance(a: u32, b: u32) -> u32
     ensures { result ≡ ones (bit_xor a b) }
 {
-    u32::count_ones(a ^ b)
+    (a ^ b).count_ones()
 }
 
-// In how many places two rows differ; where they are more than a limit, one more than the limit.
-pub fn differences_up_to(a: &[u8], b: &[u8], limit: usize) -> usize
+// In how many places two rows differ, where they are not more than a limit.
+pub fn differences_up_to(a: &[u8], b: &[u8], limit: usize) -> Option<usize>
     requires { (length a.now ≡ length b.now) × (all_bits a.now ≡ true) × (all_bits b.now ≡ true) }
-    ensures { result ≡ min (differences (map is_one a.now) (map is_one b.now)) (limit + 1) }
+    ensures { result ≡ then_some (leb (differences (map is_one a.now) (map is_one b.now)) limit) (differences (map is_one a.now) (map is_one b.now)) }
 {
-    let mut count: usize = 0;
-    for i in 0..a.len() {
-        if a[i] != b[i] {
-            count += 1;
-        }
-    }
-    if count > limit { limit + 1 } else { count }
+    let count = a.iter().zip(b).filter(|(x, y)| x != y).count();
+    (count <= limit).then_some(count)
 }

@@ -2,85 +2,82 @@
 // answered if it is valid and its image is within one place of what came.
 #![tactic(auto)]
 
-ghost use Rattle.std.specs.Prelude.{◌≡◌, true, map, ◌≤◌, length};
+ghost use Rattle.std.specs.Prelude.{◌≡◌, map, ◌≤◌, length};
 ghost use Rattle.answers.specs.Outcome.{Wrote};
-ghost use Rattle.bits.specs.Bits.{is_one, all_bits};
+ghost use Rattle.bits.specs.Bits.{is_one};
 ghost use Rattle.links.specs.Sizes.{bytes_held, image_length};
 ghost use Rattle.blocks.specs.Reading.{read_by_trying};
-ghost use Rattle.blocks.specs.Working.Came.{Came};
+ghost use Rattle.blocks.specs.Working.Answer.{block_answer};
 ghost use Rattle.blocks.specs.Calls.{answered, read_block};
 ghost use Rattle.block_reader.specs.Working.Mends.{Mends};
 
-use blocks::{Block, refuse};
-use links::Row;
+use accepting::{accept, over_zero};
+use answers::Refusal;
+use blocks::{Came, Found};
+use links::{BlockBits, LONGEST_BLOCK, LONGEST_IMAGE, Link};
+use lists::cleared;
 use received::receive;
 
-// Inverts the bit that the register tells of, where the row does not close; answers whether it closes then.
-fn mend(u: &mut [u8]) -> bool
-    requires { all_bits u.old ≡ true }
-    ensures { Mends (map is_one u.old) u.new result }
+// Inverts the bit that the register tells of, where the row does not close; refuses where no one bit makes it close.
+#[tactic(auto, using(crate::proofs::Mending::flip_stored), unfolding(distance::specs::Working::Candidate::candidate))]
+fn mend(u: &mut [bool]) -> Result<(), Refusal>
+    ensures { Mends u.old u.new result }
 {
     let register = check32::register(check32::load(), u);
     if register == 0 {
-        return true;
+        return Ok(());
     }
-    let k = u.len();
-    let after = check32::bits_after(register, k);
-    if after >= k {
-        return false;
-    }
-    let place = k - (after + 1);
-    u[place] = 1 - u[place];
-    true
+    let after = check32::bits_after(register, u.len()).ok_or(Refusal::NoBlock)?;
+    let place = u.len() - (after + 1);
+    u[place] = !u[place];
+    Ok(())
 }
 
-// Reads bits, as many as the row's images have, into a buffer with room for the datagram. u and image are scratch.
-fn read_block(row: Row, came: &[u8], u: &mut [u8], image: &mut [u8], out: &mut [u8]) -> Block
-    requires { Came row came.now × (length u.old ≡ row.k) × (length image.old ≡ image_length row) × (bytes_held row ≤ length out.old) }
-    ensures { Wrote (answered row (map is_one came.now) (read_by_trying row (map is_one came.now))) out.old out.new result }
+// Reads what came into a buffer with room for the datagram. u and image are scratch.
+#[tactic(auto, using(crate::proofs::Candidate::candidate_laws), unfolding(lists::specs::Over::over))]
+fn read_with(came: Came, u: &mut [bool], image: &mut [u8], out: &mut [u8]) -> Result<Found, Refusal>
+    requires { (length u.old ≡ came.link.row.k) × (length image.old ≡ image_length came.link.row) × (bytes_held came.link.row ≤ length out.old) }
+    ensures { Wrote (answered came.entry.link.row (map is_one came.entry.bits.now) (read_by_trying came.entry.link.row (map is_one came.entry.bits.now))) out.old out.new (block_answer result) }
 {
-    receive(row, came, image, u);
-    if !mend(u) {
-        return refuse(7);
+    receive(came, image, u);
+    mend(u)?;
+    let block = BlockBits {
+        link: came.link,
+        bits: u,
+    };
+    if !over_zero(block) {
+        return Err(Refusal::NoBlock);
     }
-    if !accepting::over_zero(row, u) {
-        return refuse(7);
-    }
-    accepting::accept(row, u, came, 1, 7, image, out)
+    accept(came, u, 1, Refusal::NoBlock, image, out)
 }
 
 // The same, with scratch of its own.
-fn read_row(row: Row, came: &[u8], out: &mut [u8]) -> Block
-    requires { Came row came.now × (bytes_held row ≤ length out.old) }
-    ensures { Wrote (answered row (map is_one came.now) (read_by_trying row (map is_one came.now))) out.old out.new result }
+#[tactic(auto, using(crate::proofs::Scratch::lent))]
+fn read_came(came: Came, out: &mut [u8]) -> Result<Found, Refusal>
+    requires { bytes_held came.link.row ≤ length out.old }
+    ensures { Wrote (answered came.entry.link.row (map is_one came.entry.bits.now) (read_by_trying came.entry.link.row (map is_one came.entry.bits.now))) out.old out.new (block_answer result) }
 {
-    let k = row.k as usize;
-    let n = came.len();
-    let mut u = images::block();
-    let mut image = images::image();
-    read_block(row, came, &mut u[..k], &mut image[..n], out)
+    let mut u = cleared::<bool, LONGEST_BLOCK>(false);
+    let mut image = cleared::<u8, LONGEST_IMAGE>(0);
+    let k = came.link.row.k;
+    let size = came.link.size;
+    read_with(came, &mut u[..k], &mut image[..size], out)
 }
 
 // Reads what came on a link as a block, and lays its datagram at the buffer's start.
-pub fn read(link: u32, bits: &[u8], out: &mut [u8]) -> Block
-    ensures { Wrote (read_block link bits.now (length out.old)) out.old out.new result }
+#[tactic(auto, unfolding(blocks::specs::Calls::read_block, lists::specs::Over::over))]
+pub fn read(link: u32, bits: &[u8], out: &mut [u8]) -> Result<Found, Refusal>
+    ensures { Wrote (read_block link bits.now (length out.old)) out.old out.new (block_answer result) }
 {
-    let place = links::place_of(link);
-    if !links::has_row(place) {
-        return refuse(1);
+    let link = Link::find(link).ok_or(Refusal::NotOffered)?;
+    if bits.len() != link.size {
+        return Err(Refusal::WrongLength);
     }
-    let row = links::row_at(place);
-    let other_length = bits.len() != links::image_length_at(place);
-    let short = out.len() < links::bytes_held(row);
-    if other_length {
-        return refuse(2);
+    if out.len() < link.bytes_held() {
+        return Err(Refusal::NoRoom);
     }
-    let all = bits::all_bits(bits);
-    if short {
-        return refuse(3);
+    if !bits::all_bits(bits) {
+        return Err(Refusal::NoBit);
     }
-    if !all {
-        return refuse(4);
-    }
-    read_row(row, bits, out)
+    read_came(Came { link, bits }, out)
 }

@@ -1,2 +1,2 @@
-pub mod Came
+pub mod Answer
 pub mod Coding

@@ -1,15 +1,15 @@
 -- Eight bits at once: the register moves up, and its own top byte and the byte that comes in leave one mark, which the table has.
 -- Assumes nothing.
 use mathlib.Core.Path.{◌≡◌, sym, ap, ap₂, ◌∙◌}
-use mathlib.Core.List.{List, map}
+use mathlib.Core.Bool.{Bool}
+use mathlib.Core.List.{List}
 use Prim.Native.Nat.{ℕ, ◌+◌, ◌*◌, ◌/◌, ◌%◌, ◌^◌, ◌<◌, ◌≤◌}
 use native.Mathlib.Omega.{arith}
 use lib.Bits.{bit_xor, xor_lt}
-use lib.ListN.{length, take, drop, take-append-drop, length-map, length-drop}
-use Rattle.bits.specs.Bits.{is_one}
+use lib.ListN.{length, take, drop, take-append-drop}
 use Rattle.bits.specs.Row.{high_first, number}
 use Rattle.bits.specs.Xor.{◌⊕◌, xor_rows}
-use Rattle.bits.proofs.Datagram.{byte-bits, after-byte}
+use Rattle.bits.proofs.Datagram.{byte-bits}
 use Rattle.bits.proofs.Row.{length-high_first}
 use Rattle.bits.proofs.Xor.{⊕_assoc, ⊕_self, ⊕-zero, zero-⊕}
 use Rattle.bits.proofs.XorRows.{xor_rows-high_first}
@@ -39,17 +39,10 @@ module _ (r : ℕ) (h : r < 2 ^ 32) where
 
   -- ---- as code computes it
   module _ (b : ℕ) (l : b < 256) where
-    pub both-lt : bit_xor top b < 256
-    both-lt = xor_lt 8 top b (omega arith) l
-
     pub byte_word : bit_xor (r * 2 ^ 8 % 2 ^ 32) (halves (bit_xor top b)) ≡ register_from r (high_first 8 b)
     unfolding ◌⊕◌
-    byte_word = ap (bit_xor (r * 2 ^ 8 % 2 ^ 32)) (halves_right (bit_xor top b) both-lt) ∙ other_byte b
+    byte_word = ap (bit_xor (r * 2 ^ 8 % 2 ^ 32)) (halves_right (bit_xor top b) (xor_lt 8 top b (omega arith) l)) ∙ other_byte b
 
--- ---- over a row of bytes, eight at a time
-pub register-byte : (row : List ℕ) (r j : ℕ) → j * 8 + 8 ≤ length row
-    → register_from r (map is_one (drop (j * 8) row)) ≡ register_from (register_from r (high_first 8 (number (take 8 (map is_one (drop (j * 8) row)))))) (map is_one (drop ((j + 1) * 8) row))
-register-byte row r j h =
-    let left = map is_one (drop (j * 8) row) in
-    rw (byte-bits left (simp (length-map, length-drop) (omega arith)), after-byte j row)
-    (ap (register_from r) (sym (take-append-drop 8 left)) ∙ register_from-append r (take 8 left) (drop 8 left))
+-- ---- over a row, eight bits at a time
+pub register-byte : (row : List Bool) (r : ℕ) → 8 ≤ length row → register_from (register_from r (high_first 8 (number (take 8 row)))) (drop 8 row) ≡ register_from r row
+register-byte row r h = rw (byte-bits row h) (sym (register_from-append r (take 8 row) (drop 8 row)) ∙ ap (register_from r) (take-append-drop 8 row))

@@ -1,8 +1,8 @@
 -- The register on 32 bits, as code computes it.
 -- Assumes nothing.
 use mathlib.Core.Path.{◌≡◌, ap, ap₂, ◌∙◌}
-use mathlib.Core.Bool.{Bool}
-use mathlib.Core.List.{List, [], ◌∷◌, map}
+use mathlib.Core.Bool.{Bool, false}
+use mathlib.Core.List.{List, [], ◌∷◌}
 use Prim.Native.Nat.{ℕ, ◌+◌, ◌*◌, ◌/◌, ◌%◌, ◌^◌, ◌<◌, ◌≤◌}
 use native.Mathlib.Nat.{zero-add}
 use native.Mathlib.Numerals.{add-one}
@@ -11,7 +11,7 @@ use lib.Bits.{bit_xor, xor_block, xor_self, xor_lt, xor_zero_r}
 use lib.Dec.{lit<}
 use lib.ListN.{length, get_or, drop, drop_of_length-le}
 use lib.Seq.{drop-cons}
-use Rattle.bits.specs.Bits.{is_one, byte}
+use Rattle.bits.specs.Bits.{byte}
 use Rattle.bits.specs.Xor.{◌⊕◌}
 use Rattle.bits.proofs.Bits.{byte-lt}
 use Rattle.bits.proofs.Xor.{⊕-is, ⊕_comm, ⊕-left_comm, ⊕-lt, ⊕_times}
@@ -61,9 +61,6 @@ module _ (r : ℕ) (h : r < 2 ^ 32) where
     fed_top : fed / 2 ^ 31 ≡ bit_xor top bit
     fed_top = omega (arith, fed-is, small)
 
-    pub fed_low : fed / 2 ^ 31 < 2
-    fed_low = omega (arith, fed_top, small)
-
     pub fed-word : bit_xor (fed * 2 % 2 ^ 32) (fed / 2 ^ 31 * x32) ≡ step r b
     fed-word =
         let up : fed * 2 % 2 ^ 32 ≡ moved = omega (arith, fed-is, small) in
@@ -82,12 +79,12 @@ register_from-lt r (b ∷ row) h = register_from-lt (step r b) row (step-lt r h 
 pub register-lt : (row : List Bool) → register row < 2 ^ 32
 register-lt row = register_from-lt loaded row (lit< tt)
 
--- ---- over a row of bytes, byte by byte
-pub register_more : (row : List ℕ) (r i : ℕ) → i < length row
-    → register_from r (map is_one (drop i row)) ≡ register_from (step r (is_one (get_or row i 0))) (map is_one (drop (i + 1) row))
+-- ---- over a row, bit by bit
+pub register_more : (row : List Bool) (r i : ℕ) → i < length row
+    → register_from (step r (get_or row i false)) (drop (i + 1) row) ≡ register_from r (drop i row)
 unfolding register_from
-register_more row r i h = rw (drop-cons row i 0 h, add-one)
+register_more row r i h = rw (drop-cons row i false h, add-one)
 
-pub register-done : (row : List ℕ) (r i : ℕ) → length row ≤ i → register_from r (map is_one (drop i row)) ≡ r
+pub register-done : (row : List Bool) (r i : ℕ) → length row ≤ i → register_from r (drop i row) ≡ r
 unfolding register_from
 register-done row r i h = rw (drop_of_length-le row h)

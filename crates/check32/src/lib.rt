@@ -3,8 +3,8 @@
 
 mod bytes;
 
-ghost use Rattle.std.specs.Prelude.{◌≡◌, map};
-ghost use Rattle.bits.specs.Bits.{is_one};
+ghost use Rattle.std.specs.Prelude.{◌≡◌, ltb};
+ghost use Rattle.std.specs.Bool.{then_some};
 ghost use Rattle.bits.specs.Row.{high_first};
 ghost use Rattle.check32.specs.Working.Bytes.{byte_marks};
 ghost use Rattle.check32.specs.Check.{step, register_from, loaded};
@@ -14,7 +14,7 @@ ghost use Rattle.check32.specs.Working.Marks.{bits_after};
 pub fn step(r: u32, bit: bool) -> u32
     ensures { result ≡ step r bit }
 {
-    let fed = r ^ ((bit as u32) << 31);
+    let fed = r ^ (u32::from(bit) << 31);
     (fed << 1) ^ ((fed >> 31) * 0x04C11DB7)
 }
 
@@ -25,8 +25,8 @@ fn step_byte(r: u32, byte: u8, marks: &[u32; 32]) -> u32
     ensures { result ≡ register_from r (high_first 8 byte) }
 {
     let out = ((r >> 24) as u8) ^ byte;
-    let low = marks[(out % 16) as usize];
-    let high = marks[(out / 16) as usize + 16];
+    let low = marks[usize::from(out % 16)];
+    let high = marks[usize::from(out / 16) + 16];
     (r << 8) ^ (high ^ low)
 }
 
@@ -37,32 +37,34 @@ pub fn load() -> u32
     0xFFFFFFFF
 }
 
-// The register run on over a row of bits, one to a byte. Loaded first, it ends at 0 where the row closes.
-pub fn register(from: u32, bits: &[u8]) -> u32
-    ensures { result ≡ register_from from (map is_one bits.now) }
+// The register run on over a row of bits. Loaded first, it ends at 0 where the row closes.
+pub fn register(from: u32, bits: &[bool]) -> u32
+    ensures { result ≡ register_from from bits.now }
 {
     let marks = bytes::marks();
     let mut r = from;
-    for j in 0..bits.len() / 8 {
-        r = step_byte(r, bits::byte_at(bits, j), &marks);
+    let mut rest = bits;
+    while let Some((byte, behind)) = bits::split_byte(rest) {
+        r = step_byte(r, byte, &marks);
+        rest = behind;
     }
     // the rest, bit by bit
-    for i in bits.len() / 8 * 8..bits.len() {
-        r = step(r, bits[i] == 1);
+    for &bit in rest {
+        r = step(r, bit);
     }
     r
 }
 
-// How many bits of a row of k come after the one wrong bit that leaves this register: k where no one bit does.
-pub fn bits_after(register: u32, k: usize) -> usize
-    ensures { result ≡ bits_after register k }
+// How many bits of a row of k come after the one wrong bit that leaves this register, if one bit does. n is no index: it is what is asked for.
+pub fn bits_after(register: u32, k: usize) -> Option<usize>
+    ensures { result ≡ then_some (ltb (bits_after register k) k) (bits_after register k) }
 {
     let mut mark: u32 = 0x04C11DB7;
     for n in 0..k {
         if mark == register {
-            return n;
+            return Some(n);
         }
         mark = step(mark, false);
     }
-    k
+    None
 }

@@ -1,70 +1,62 @@
--- What is left to lay at a clock, in bytes: of the ending, and of a block.
+-- What is left to lay at a clock, in bytes: of the clock's six, of the ending, and of a block.
 -- Assumes nothing.
-use mathlib.Core.Path.{◌≡◌, refl, sym, ap, ◌∙◌}
+use mathlib.Core.Path.{◌≡◌, refl, ap, ap₂, ◌∙◌}
+use mathlib.Core.Logic.{◌⊎◌, inl, inr}
 use mathlib.Core.Bool.{Bool, true, false}
-use mathlib.Core.List.{List, [], ◌++◌, map, map-append}
-use Prim.Native.Nat.{ℕ, suc, ◌+◌, ◌<◌, ◌≤◌}
+use mathlib.Core.List.{List, [], ◌∷◌, ◌++◌, map, map-append}
+use Prim.Native.Nat.{ℕ, suc, ◌+◌, ◌%◌, ◌<◌, ◌≤◌}
 use native.Mathlib.Numerals.{add-one}
-use native.Mathlib.Omega.{arith}
-use lib.ListN.{length, get_or, take, drop, drop_of_length-le, length-map}
-use lib.Seq.{drop-cons, slice, slice_empty, slice-cons, take_all}
-use Rattle.bits.specs.Bits.{is_one, byte}
+use lib.ListN.{length, get_or, take, drop, replicate, drop_of_length-le}
+use lib.Seq.{drop-cons}
+use Rattle.bits.specs.Bits.{byte}
 use Rattle.links.specs.Patterns.{flags_at}
-use Rattle.turbo.specs.Encoder.{Register, start, feedback, next}
+use Rattle.turbo.specs.Encoder.{Register, feedback, next}
 use Rattle.turbo.specs.Coded.{six, passed, alone, ending_of, ending, coded_from}
-use Rattle.turbo.proofs.Lengths.{even_endings}
 use Rattle.turbo.proofs.Passing.{map-passed}
-use Rattle.clocks.specs.Working.Encode.{left}
 
--- ---- of the ending of one encoder, the clocks of the tail from t to e
-pub ending_more : (second : Bool) (tail : List (List ℕ)) (t e : ℕ) (r after : Register) → t < e → e ≤ length tail → after ≡ next r (feedback r)
-    → map byte (ending_of second (slice t e tail) r) ≡ passed (get_or tail t []) (map byte (alone second r)) ++ map byte (ending_of second (slice (t + 1) e tail) after)
-unfolding ending_of
-ending_more second tail t e r after h l fed =
-    let flags = get_or tail t [] in
-    let rest = ending_of second (slice (suc t) e tail) (next r (feedback r)) in
-    rw (slice-cons t e tail [] h l, add-one, fed)
-    (map-append byte (passed flags (alone second r)) rest ∙ ap (λ (p : List ℕ). p ++ map byte rest) (map-passed byte flags (alone second r)))
+-- ---- of the six of a clock: what the first flag passes on, then what the others do
+pub passed_more : (flags bits : List ℕ) {flags' bits' : List ℕ} {flag bit : ℕ} → (flags ≡ flag ∷ flags') × (bits ≡ bit ∷ bits') → passed flags bits ≡ replicate flag bit ++ passed flags' bits'
+unfolding passed
+passed_more flags bits e = ap₂ passed e.0 e.1
 
-pub ending-done : (second : Bool) (tail : List (List ℕ)) (t e : ℕ) (r : Register) → t ≤ e → e ≤ t → map byte (ending_of second (slice t e tail) r) ≡ []
+pub passed-done : (flags bits : List ℕ) → (flags ≡ []) ⊎ (bits ≡ []) → passed flags bits ≡ []
+unfolding passed
+passed-done flags bits (inl e) = rw e
+passed-done [] bits (inr e) = refl
+passed-done (flag ∷ flags) bits (inr e) = rw e
+
+-- what a clock passes on, and what is behind it, as bytes
+bytes-parts : (flags : List ℕ) (bits behind : List Bool) → map byte (passed flags bits ++ behind) ≡ passed flags (map byte bits) ++ map byte behind
+bytes-parts flags bits behind = map-append byte (passed flags bits) behind ∙ ap (λ (p : List ℕ). p ++ map byte behind) (map-passed byte flags bits)
+
+-- ---- of the ending of one encoder, from clock i on
+pub ending_more : (second : Bool) (clocks : List (List ℕ)) (i : ℕ) (r : Register) {after : Register} → i < length clocks → after ≡ next r (feedback r)
+    → map byte (ending_of second (drop i clocks) r) ≡ passed (get_or clocks i []) (map byte (alone second r)) ++ map byte (ending_of second (drop (i + 1) clocks) after)
 unfolding ending_of
-ending-done second tail t e r h l = let end : t ≡ e = omega arith in rw (end, slice_empty)
+ending_more second clocks i r h fed =
+    rw (drop-cons clocks i [] h, add-one, fed) (bytes-parts (get_or clocks i []) (alone second r) (ending_of second (drop (suc i) clocks) (next r (feedback r))))
+
+pub ending-done : (second : Bool) (clocks : List (List ℕ)) (i : ℕ) (r : Register) → length clocks ≤ i → map byte (ending_of second (drop i clocks) r) ≡ []
+unfolding ending_of
+ending-done second clocks i r h = rw (drop_of_length-le clocks h)
 
 -- of both: the first encoder's, then the second's
-abbrev pub first_bytes : List (List ℕ) → Register → List ℕ
-first_bytes tail a = map byte (ending_of false (slice 0 3 tail) a)
+pub ending-both : (tail : List (List ℕ)) (a b : Register) {first second : List (List ℕ)} → first ≡ take 3 tail → second ≡ drop 3 tail
+    → map byte (ending tail a b) ≡ map byte (ending_of false first a) ++ map byte (ending_of true second b)
+ending-both tail a b e f = rw (e, f) (map-append byte (ending_of false (take 3 tail) a) (ending_of true (drop 3 tail) b))
 
-abbrev pub second_bytes : List (List ℕ) → Register → List ℕ
-second_bytes tail b = map byte (ending_of true (slice 3 6 tail) b)
-
--- the second is as long from any register
-pub second_even : (tail : List (List ℕ)) (a b : Register) → length (second_bytes tail a) ≡ length (second_bytes tail b)
-second_even tail a b =
-    length-map (ending_of true (slice 3 6 tail) a) byte ∙ even_endings true (slice 3 6 tail) a b ∙ sym (length-map (ending_of true (slice 3 6 tail) b) byte)
-
-pub ending-both : (tail : List (List ℕ)) (a b : Register) → length tail ≡ 6 → map byte (ending tail a b) ≡ first_bytes tail a ++ second_bytes tail b
-ending-both tail a b l = rw (take_all 6 tail (omega (arith, l))) (map-append byte (ending_of false (take 3 tail) a) (ending_of true (drop 3 tail) b))
-
--- ---- of a block
-module _ (pattern tail : List (List ℕ)) (u v : List ℕ) where
-  pub left-start : left pattern tail u v 0 start start ≡ map byte (coded_from pattern tail 0 start start (map is_one u) (map is_one v))
-  unfolding left
-  left-start = refl
-
-  -- the bits of clock s, then what is left at the next
-  pub left_more : (s : ℕ) (a b : Register) → s < length u → s < length v
-      → left pattern tail u v s a b
-      ≡ passed (flags_at pattern s) (map byte (six a b (is_one (get_or u s 0)) (is_one (get_or v s 0))))
-      ++ left pattern tail u v (s + 1) (next a (is_one (get_or u s 0))) (next b (is_one (get_or v s 0)))
-  unfolding left coded_from
-  left_more s a b h l =
-      let x = is_one (get_or u s 0) in
-      let y = is_one (get_or v s 0) in
-      let rest = coded_from pattern tail (suc s) (next a x) (next b y) (map is_one (drop (suc s) u)) (map is_one (drop (suc s) v)) in
-      rw (drop-cons u s 0 h, drop-cons v s 0 l, add-one)
-      (map-append byte (passed (flags_at pattern s) (six a b x y)) rest ∙ ap (λ (p : List ℕ). p ++ map byte rest) (map-passed byte (flags_at pattern s) (six a b x y)))
+-- ---- of a block at clock s, whose place in the pattern is c: u are its bits that are left, v the same interleaved
+module _ (pattern tail : List (List ℕ)) (s : ℕ) (a b : Register) where
+  pub coded_more : (u v : List Bool) {c s' : ℕ} {x y : Bool} {u' v' : List Bool} → c ≡ s % length pattern → s' ≡ s + 1 → (u ≡ x ∷ u') × (v ≡ y ∷ v')
+      → map byte (coded_from pattern tail s a b u v)
+      ≡ passed (get_or pattern c []) (map byte (six a b x y)) ++ map byte (coded_from pattern tail s' (next a x) (next b y) u' v')
+  unfolding coded_from flags_at
+  coded_more u v {x = x} {y = y} {u' = u'} {v' = v'} place after e =
+      rw (e.0, e.1, place, after, add-one) (bytes-parts (flags_at pattern s) (six a b x y) (coded_from pattern tail (suc s) (next a x) (next b y) u' v'))
 
   -- at the end the ending
-  pub left-done : (s : ℕ) (a b : Register) → length u ≤ s → left pattern tail u v s a b ≡ map byte (ending tail a b)
-  unfolding left coded_from
-  left-done s a b h = rw (drop_of_length-le u {i = s} h)
+  pub coded-done : (u v : List Bool) → (u ≡ []) ⊎ (v ≡ []) → map byte (coded_from pattern tail s a b u v) ≡ map byte (ending tail a b)
+  unfolding coded_from
+  coded-done u v (inl e) = rw e
+  coded-done [] v (inr e) = refl
+  coded-done (x ∷ u) v (inr e) = rw e

@@ -1,2 +1,1 @@
-pub mod AtClock
 pub mod Left

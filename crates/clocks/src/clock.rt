@@ -1,20 +1,18 @@
 // What a clock passes on (M.2092-1, Annex 2, 1.2.4.4): the six bits that both encoders put out, each as often as its flag says.
-ghost use Rattle.std.specs.Prelude.{◌≡◌, [], ◌∷◌, map, ◌%◌, ◌≤◌, ◌<◌, replicate};
+ghost use Rattle.std.specs.Prelude.{◌≡◌, [], ◌∷◌, map, ◌%◌, replicate};
 ghost use Rattle.lists.specs.Over.{Room};
 ghost use Rattle.lists.specs.Working.Laying.{Lays};
-ghost use Rattle.bits.specs.Bits.{is_one, byte};
-ghost use Rattle.turbo.specs.Encoder.{next, y0, y1};
+ghost use Rattle.bits.specs.Bits.{byte};
+ghost use Rattle.turbo.specs.Encoder.{start, next, y0, y1};
 ghost use Rattle.turbo.specs.Coded.{six, passed};
-ghost use Rattle.encoder.specs.Working.Number.{register_of, number_of};
-ghost use Rattle.clocks.specs.Working.Encode.{AtMostTwice};
 
-use encoder::{last, one, y0, y1};
+use encoder::{Register, y0, y1};
 
-// An input among 32 bits.
-fn wide(bit: u8) -> u32
-    ensures { result ≡ bit }
-{
-    bit as u32
+// The registers of the two encoders.
+#[derive(Clone, Copy)]
+pub struct Registers {
+    pub a: Register,
+    pub b: Register,
 }
 
 // The bit of the one clock that was shifted in.
@@ -25,60 +23,65 @@ fn lowest(taps: u32) -> u8
 }
 
 // X Y0 Y1 of a clock of one encoder.
-fn three(register: u32, u: u8) -> [u8; 3]
-    requires { (register < 8) × (u ≤ 1) }
-    ensures { result ≡ u ∷ byte (y0 (register_of register) (is_one u)) ∷ byte (y1 (register_of register) (is_one u)) ∷ [] }
+fn three(register: Register, u: bool) -> [u8; 3]
+    ensures { result ≡ map byte (u ∷ y0 register u ∷ y1 register u ∷ []) }
 {
-    let fed = one(register, wide(u));
-    let first = lowest(y0(fed));
-    let second = lowest(y1(fed));
-    [u, first, second]
+    let fed = register.one(u);
+    [u8::from(u), lowest(y0(fed)), lowest(y1(fed))]
 }
 
-// X Y0 Y1 X' Y'0 Y'1 of a clock, the registers a and b, the inputs u and v.
-pub fn six(a: u32, b: u32, u: u8, v: u8) -> [u8; 6]
-    requires { (a < 8) × (b < 8) × (u ≤ 1) × (v ≤ 1) }
-    ensures { result ≡ map byte (six (register_of a) (register_of b) (is_one u) (is_one v)) }
-{
-    let x = three(a, u);
-    let y = three(b, v);
-    [x[0], x[1], x[2], y[0], y[1], y[2]]
-}
-
-// The register after a clock.
-pub fn next(register: u32, u: u8) -> u32
-    requires { (register < 8) × (u ≤ 1) }
-    ensures { result ≡ number_of (next (register_of register) (is_one u)) }
-{
-    last(one(register, wide(u)))
-}
-
-// Lays one bit as often as its flag says; answers the place behind.
-fn pass(flag: u8, bit: u8, at: usize, out: &mut [u8]) -> usize
-    requires twice { flag ≤ 2 }
-    requires room { Room at (replicate flag bit) out.old }
-    ensures { Lays at (replicate flag bit) out.old out.new result }
-{
-    if flag == 0 {
-        return at;
+impl Registers {
+    // Both all zero, as a block begins.
+    pub fn start() -> Registers
+        ensures { (result.a ≡ start) × (result.b ≡ start) }
+    {
+        Registers {
+            a: Register::start(),
+            b: Register::start(),
+        }
     }
-    out[at] = bit;
-    if flag == 1 {
-        return at + 1;
+
+    // X Y0 Y1 X' Y'0 Y'1 of a clock with the inputs u and v, one to a byte.
+    pub fn six(&self, u: bool, v: bool) -> [u8; 6]
+        ensures { result ≡ map byte (six self.now.a self.now.b u v) }
+    {
+        let first = three(self.a, u);
+        let second = three(self.b, v);
+        [
+            first[0], first[1], first[2], second[0], second[1], second[2],
+        ]
     }
-    out[at + 1] = bit;
-    at + 2
+
+    // The registers after a clock.
+    pub fn next(self, u: bool, v: bool) -> Registers
+        ensures { (result.a ≡ next self.a u) × (result.b ≡ next self.b v) }
+    {
+        Registers {
+            a: Register::last(self.a.one(u)),
+            b: Register::last(self.b.one(v)),
+        }
+    }
 }
 
-// Lays what the flags of a clock pass on of its six bits.
-pub fn lay(flags: [u8; 6], bits: [u8; 6], at: usize, out: &mut [u8]) -> usize
-    requires twice { AtMostTwice flags }
-    requires room { Room at (passed flags bits) out.old }
-    ensures { Lays at (passed flags bits) out.old out.new result }
+// Lays one byte as often as its flag says; answers the place behind. The place goes beside its buffer, here and where it comes from, as in
+// `Lays`: a part of the buffer, cut anew for each byte, is no plainer.
+fn pass(flag: u8, byte: u8, at: usize, out: &mut [u8]) -> usize
+    requires { Room at (replicate flag byte) out.old }
+    ensures { Lays at (replicate flag byte) out.old out.new result }
+{
+    let end = at + usize::from(flag);
+    out[at..end].fill(byte);
+    end
+}
+
+// Lays what the flags of a clock pass on of its six; answers the place behind.
+pub fn lay(flags: &[u8; 6], six: [u8; 6], at: usize, out: &mut [u8]) -> usize
+    requires { Room at (passed flags.now six) out.old }
+    ensures { Lays at (passed flags.now six) out.old out.new result }
 {
     let mut to = at;
-    for x in 0..6 {
-        to = pass(flags[x], bits[x], to, out);
+    for (&flag, &byte) in flags.iter().zip(&six) {
+        to = pass(flag, byte, to, out);
     }
     to
 }

@@ -1,67 +1,64 @@
 // The ending (M.2092-1, Annex 2, 1.2.4.4; document 01, "From datagram to block"): three clocks put out the first encoder only, three
 // more the second, each fed what its register feeds back.
-ghost use Rattle.std.specs.Prelude.{◌≡◌, map, ◌+◌, ◌≤◌, ◌<◌};
-ghost use Rattle.std.proofs.Math.Seq.{slice};
+ghost use Rattle.std.specs.Prelude.{◌≡◌, map};
 ghost use Rattle.lists.specs.Over.{Room};
 ghost use Rattle.lists.specs.Working.Laying.{Lays};
 ghost use Rattle.bits.specs.Bits.{byte};
-ghost use Rattle.turbo.specs.Encoder.{feedback};
+ghost use Rattle.turbo.specs.Encoder.{feedback, next};
 ghost use Rattle.turbo.specs.Coded.{alone, ending_of, ending};
-ghost use Rattle.encoder.specs.Working.Number.{register_of};
-ghost use Rattle.clocks.specs.Working.Encode.{AllAtMostTwice};
 
-use crate::clock::{lay, next, six};
-use encoder::feedback;
+use crate::clock::{Registers, lay};
+use encoder::Register;
+use links::Flags;
 
-// What an encoder is fed in its ending.
-fn fed_back(register: u32) -> u8
-    requires { register < 8 }
-    ensures { result ≡ byte (feedback (register_of register)) }
+// The six of a clock of the ending: the other encoder stands at zero. The definition is told by the same Bool which of the two it is.
+fn alone(second: bool, register: Register) -> [u8; 6]
+    ensures { result ≡ map byte (alone second register) }
 {
-    feedback(register) as u8
-}
-
-// The six of a clock of the ending: the other encoder stands at zero.
-fn alone(second: bool, register: u32) -> [u8; 6]
-    requires { register < 8 }
-    ensures { result ≡ map byte (alone second (register_of register)) }
-{
-    let fed = fed_back(register);
+    let start = Register::start();
+    let fed = register.feedback();
     if second {
-        return six(0, register, 0, fed);
+        let registers = Registers {
+            a: start,
+            b: register,
+        };
+        return registers.six(false, fed);
     }
-    six(register, 0, fed, 0)
+    let registers = Registers {
+        a: register,
+        b: start,
+    };
+    registers.six(fed, false)
 }
 
-// Lays the ending of one encoder: the three clocks of the tail from `from` on.
-fn end_one(
-    tail: [[u8; 6]; 6],
-    from: usize,
-    second: bool,
-    register: u32,
-    at: usize,
-    out: &mut [u8],
-) -> usize
-    requires small { (from ≤ 3) × (register < 8) × AllAtMostTwice tail }
-    requires room { Room at (map byte (ending_of second (slice from (from + 3) tail) (register_of register))) out.old }
-    ensures { Lays at (map byte (ending_of second (slice from (from + 3) tail) (register_of register))) out.old out.new result }
+// The register after a clock of the ending.
+fn wound(register: Register) -> Register
+    ensures { result ≡ next register (feedback register) }
+{
+    Register::last(register.one(register.feedback()))
+}
+
+// Lays the ending of one encoder, one clock to each six flags. Which of the two it is comes as a Bool, as in the definition `ending_of`: a closure
+// for the six would say no more.
+fn end_one(clocks: &[[u8; 6]], second: bool, register: Register, at: usize, out: &mut [u8]) -> usize
+    requires { Room at (map byte (ending_of second clocks.now register)) out.old }
+    ensures { Lays at (map byte (ending_of second clocks.now register)) out.old out.new result }
 {
     let mut to = at;
     let mut r = register;
-    for t in from..from + 3 {
-        let flags = tail[t];
+    for flags in clocks {
         to = lay(flags, alone(second, r), to, out);
-        r = next(r, fed_back(r));
+        r = wound(r);
     }
     to
 }
 
-// Lays the ending of both, the registers a and b.
-pub fn end(tail: [[u8; 6]; 6], a: u32, b: u32, at: usize, out: &mut [u8]) -> usize
-    requires small { (a < 8) × (b < 8) × AllAtMostTwice tail }
-    requires room { Room at (map byte (ending tail (register_of a) (register_of b))) out.old }
-    ensures { Lays at (map byte (ending tail (register_of a) (register_of b))) out.old out.new result }
+// Lays the ending of both.
+pub fn end(flags: Flags, registers: Registers, at: usize, out: &mut [u8]) -> usize
+    requires { Room at (map byte (ending flags.tail registers.a registers.b)) out.old }
+    ensures { Lays at (map byte (ending flags.tail registers.a registers.b)) out.old out.new result }
 {
-    let to = end_one(tail, 0, false, a, at, out);
-    end_one(tail, 3, true, b, to, out)
+    let (first, second) = flags.tail.split_at(3);
+    let to = end_one(first, false, registers.a, at, out);
+    end_one(second, true, registers.b, to, out)
 }

@@ -4,54 +4,39 @@
 
 mod clock;
 mod ending;
+mod inputs;
 
-ghost use Rattle.std.specs.Prelude.{◌≡◌, ◌+◌, ◌%◌, ◌≤◌, ◌<◌, take};
+ghost use Rattle.std.specs.Prelude.{map};
 ghost use Rattle.lists.specs.Over.{Room};
 ghost use Rattle.lists.specs.Working.Laying.{Lays};
-ghost use Rattle.encoder.specs.Working.Number.{register_of};
-ghost use Rattle.clocks.specs.Working.Encode.{ReadyFrom, left};
+ghost use Rattle.bits.specs.Bits.{byte};
+ghost use Rattle.links.specs.Working.Clocks.{clocks_of};
+ghost use Rattle.turbo.specs.Coded.{coded_from};
 
-pub use clock::lay;
-use clock::{next, six};
+pub use clock::{Registers, lay};
 use ending::end;
+pub use inputs::Inputs;
+use links::Flags;
 
-// The next clock's place in a pattern, which begins again after `period` clocks.
-fn next_clock(c: usize, period: usize) -> usize
-    requires { (c < period) × (period ≤ 10) }
-    ensures { result ≡ (c + 1) % period }
-{
-    if c + 1 < period { c + 1 } else { 0 }
-}
-
-// Lays what is left of a block at clock `from`, where the pattern begins, clock by clock: a and b are the registers.
+// Lays the clocks of some inputs, where the pattern begins, and the ending; answers the place behind.
 pub fn lay_rest(
-    u: &[u8],
-    v: &[u8],
-    pattern: [[u8; 6]; 10],
-    period: usize,
-    tail: [[u8; 6]; 6],
-    from: usize,
-    a: u32,
-    b: u32,
-    place: usize,
+    rest: Inputs,
+    flags: Flags,
+    registers: Registers,
+    at: usize,
     out: &mut [u8],
 ) -> usize
-    requires ready { ReadyFrom u.now v.now pattern period tail from a b }
-    requires room { Room place (left (take period pattern) tail u.now v.now from (register_of a) (register_of b)) out.old }
-    ensures { Lays place (left (take period pattern) tail u.now v.now from (register_of a) (register_of b)) out.old out.new result }
+    requires { Room at (map byte (coded_from (clocks_of flags) flags.tail 0 registers.a registers.b rest.u.now rest.v.now)) out.old }
+    ensures { Lays at (map byte (coded_from (clocks_of flags) flags.tail 0 registers.a registers.b rest.entry.u.now rest.entry.v.now)) out.old out.new result }
 {
-    let mut at = place;
-    let mut a = a;
-    let mut b = b;
-    let mut c = 0;
-    for s in from..u.len() {
-        let x = u[s];
-        let y = v[s];
-        let flags = pattern[c];
-        at = lay(flags, six(a, b, x, y), at, out);
-        a = next(a, x);
-        b = next(b, y);
-        c = next_clock(c, period);
+    let clocks = flags.clocks();
+    let mut to = at;
+    let mut registers = registers;
+    let mut clock = 0;
+    for (&u, &v) in rest.u.iter().zip(rest.v) {
+        to = lay(&clocks[clock], registers.six(u, v), to, out);
+        registers = registers.next(u, v);
+        clock = flags.next_clock(clock);
     }
-    end(tail, a, b, at, out)
+    end(flags, registers, to, out)
 }

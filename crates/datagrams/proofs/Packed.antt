@@ -53,7 +53,7 @@ packed_packed at p q old h =
     ap₂ as_bytes (length-packed_over at p old) (ap (over (at + length p) q) (packed_bits at p old h) ∙ over-over at p q (bits_of old) (omega (arith, length-bits_of old)))
 
 -- ---- by whole bytes
-bits_of-over : (j : ℕ) (p old : List ℕ) → bits_of (over j p old) ≡ over (j * 8) (bits_of p) (bits_of old)
+pub bits_of-over : (j : ℕ) (p old : List ℕ) → bits_of (over j p old) ≡ over (j * 8) (bits_of p) (bits_of old)
 unfolding over
 bits_of-over j p old =
     let place : (j + length p) * 8 ≡ j * 8 + length (bits_of p) = omega (arith, length-bits_of p) in

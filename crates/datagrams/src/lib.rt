@@ -1,5 +1,4 @@
-// A datagram as bits, one to a byte, and back (document 01, "What the module does"): first byte first, most significant bit first, from and to any
-// bit of it.
+// A datagram as bits and back (document 01, "What the module does"): first byte first, most significant bit first, from and to any bit of it.
 #![tactic(auto)]
 
 mod packing;

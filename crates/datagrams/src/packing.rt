@@ -1,66 +1,56 @@
 // A row of bits packed over those of a datagram: the byte in which it begins, whole bytes, and the byte in which it ends.
-ghost use Rattle.std.specs.Prelude.{◌≡◌, map, ◌+◌, ◌*◌, ◌/◌, ◌≤◌, length, take};
+ghost use Rattle.std.specs.Prelude.{◌≡◌, ◌+◌, ◌-◌, ◌*◌, ◌≤◌, length};
 ghost use Rattle.lists.specs.Over.{over};
-ghost use Rattle.bits.specs.Bits.{is_one};
-ghost use Rattle.bits.specs.Datagram.{as_bytes};
 ghost use Rattle.datagrams.specs.Working.Packed.{packed_over};
 ghost use Rattle.bits.specs.Row.{high_first};
 
-use bits::{byte_at, number_of};
+use bits::{lay_bits, number_of, split_byte};
+use std::cmp;
 
-// A byte with bits laid over its own from one of them on: what is before them, they, and what is behind them.
-fn byte_over(old: u8, from: usize, bits: &[u8]) -> u8
+// A byte with bits laid over its own from one of them on.
+fn byte_over(old: u8, from: usize, bits: &[bool]) -> u8
     requires { from + length bits.now ≤ 8 }
-    ensures { high_first 8 result ≡ over from (map is_one bits.now) (high_first 8 old) }
+    ensures { high_first 8 result ≡ over from bits.now (high_first 8 old) }
 {
-    let behind = 8 - (from + bits.len());
-    let before = (old as u32) >> (8 - from);
-    let front = (before << bits.len()) + number_of(bits);
-    ((front << behind) + (old as u32) % (1 << behind)) as u8
+    let mut own = [false; 8];
+    lay_bits(u32::from(old), &mut own);
+    own[from..from + bits.len()].copy_from_slice(bits);
+    number_of(&own) as u8
 }
 
 // Lays bits over those of byte j of a datagram, from one of them on.
-fn pack_part(bits: &[u8], j: usize, from: usize, out: &mut [u8])
-    requires { (from + length bits.now ≤ 8) × (j * 8 + from + length bits.now ≤ length out.old * 8) }
-    ensures { out.new ≡ packed_over (j * 8 + from) (map is_one bits.now) out.old }
+fn pack_part(bits: &[bool], j: usize, from: usize, out: &mut [u8])
+    requires { (from + length bits.now ≤ 8) × (length bits.now ≤ length out.old * 8 - (j * 8 + from)) }
+    ensures { out.new ≡ packed_over (j * 8 + from) bits.now out.old }
 {
-    if bits.len() > 0 {
+    if !bits.is_empty() {
         out[j] = byte_over(out[j], from, bits);
     }
 }
 
-// Lays the whole bytes that a row begins with over a datagram from byte j on.
-fn pack_bytes(row: &[u8], j: usize, out: &mut [u8])
-    requires { j + length row.now / 8 ≤ length out.old }
-    ensures { out.new ≡ over j (as_bytes (length row.now / 8) (map is_one row.now)) out.old }
+// Lays the bits of a row over those of a datagram from byte j on: whole bytes, and then the rest. The byte's place is counted, since nothing
+// is known of a slice behind a `zip` with its iter_mut.
+fn pack_from(row: &[bool], j: usize, out: &mut [u8])
+    requires { length row.now ≤ length out.old * 8 - j * 8 }
+    ensures { out.new ≡ packed_over (j * 8) row.now out.old }
 {
-    for i in 0..row.len() / 8 {
-        out[j + i] = byte_at(row, i);
+    let mut rest = row;
+    let mut at = j;
+    while let Some((byte, behind)) = split_byte(rest) {
+        out[at] = byte;
+        at += 1;
+        rest = behind;
     }
+    pack_part(rest, at, 0, out);
 }
 
-// Lays the bits of a row over those of a datagram from byte j on: whole bytes, and then the rest.
-fn pack_from(row: &[u8], j: usize, out: &mut [u8])
-    requires { j * 8 + length row.now ≤ length out.old * 8 }
-    ensures { out.new ≡ packed_over (j * 8) (map is_one row.now) out.old }
-{
-    pack_bytes(row, j, out);
-    let count = row.len() / 8;
-    let whole = count * 8;
-    pack_part(&row[whole..], j + count, 0, out);
-}
-
-// Lays the first n bits of a row over those of a datagram from a bit on; the datagram's other bits stay.
-pub fn pack(row: &[u8], n: usize, at: usize, out: &mut [u8])
-    requires { (n ≤ length row.now) × (at + n ≤ length out.old * 8) }
-    ensures { out.new ≡ packed_over at (take n (map is_one row.now)) out.old }
+// Lays a row of bits over those of a datagram from a bit on; the datagram's other bits stay.
+pub fn pack(row: &[bool], at: usize, out: &mut [u8])
+    requires { at + length row.now ≤ length out.old * 8 }
+    ensures { out.new ≡ packed_over at row.now out.old }
 {
     let from = at % 8;
-    let head = 8 - from;
-    if n <= head {
-        pack_part(&row[..n], at / 8, from, out);
-    } else {
-        pack_part(&row[..head], at / 8, from, out);
-        pack_from(&row[head..n], at / 8 + 1, out);
-    }
+    let (head, rest) = row.split_at(cmp::min(8 - from, row.len()));
+    pack_part(head, at / 8, from, out);
+    pack_from(rest, at / 8 + 1, out);
 }

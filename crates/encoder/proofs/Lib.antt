@@ -1,4 +1,3 @@
 pub mod Feed
-pub mod Halves
 pub mod Number
 pub mod Taps

@@ -17,8 +17,9 @@ use Rattle.bits.proofs.Xor.{⊕-is, ⊕-bits}
 use Rattle.turbo.specs.Encoder.{Register, fed, next, y0, y1}
 use Rattle.turbo.specs.Outputs.{outputs}
 use Rattle.turbo.specs.Working.Parity.{register_after}
-use Rattle.encoder.specs.Working.Number.{number_of}
+use Rattle.encoder.specs.Working.Number.{number_of, register_of}
 use Rattle.encoder.specs.Working.Fed.{fed_on, Taps, Last}
+use Rattle.encoder.proofs.Number.{register-made}
 
 -- ---- bits written behind a number stand lowest
 pub on_split : (w : ℕ) (row : List Bool) → number_on w row ≡ w * 2 ^ length row + number row
@@ -151,9 +152,9 @@ unfolding number_on outputs register_after
 last-all w r [] e = e
 last-all w r (x ∷ row) e = last-all (w * 2 + byte (fed r x)) (next r x) row (moved w r e x)
 
-pub last_of : (n : ℕ) → Last n (bit_and n 7)
+pub last_of : (n : ℕ) → Last n (register_of (bit_and n 7))
 unfolding fed_on
-last_of n r row e = and_mask n 3 ∙ ap (λ (m : ℕ). m % 8) e ∙ last-all (number_of r) r row (small_stands r)
+last_of n r row e = register-made (register_after r row) (and_mask n 3 ∙ ap (λ (m : ℕ). m % 8) e ∙ last-all (number_of r) r row (small_stands r))
 
 -- ---- of one clock
 module _ (y : Register → Bool → Bool) (n t : ℕ) (tapped : Taps y n t) (r : Register) where

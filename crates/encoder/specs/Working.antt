@@ -1,3 +1,2 @@
 pub mod Fed
-pub mod Inputs
 pub mod Number

@@ -1,5 +1,4 @@
 pub mod AtGroup
-pub mod OfRow
 pub mod Places
 pub mod Stands
 pub mod Together

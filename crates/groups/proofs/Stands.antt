@@ -10,8 +10,8 @@ use lib.Arith.{digits_div, digits_mod, mod-mul}
 use lib.ListN.{length, get_or}
 use lib.Pow.{pow_pos}
 use Rattle.bits.specs.Bits.{byte}
-use Rattle.bits.specs.Row.{number}
-use Rattle.bits.proofs.Row.{number-first, number_lt}
+use Rattle.bits.specs.Row.{number, high_first}
+use Rattle.bits.proofs.Row.{number-first, number_lt, high_first-number}
 use Rattle.turbo.specs.Encoder.{Register, next, y0, y1}
 use Rattle.turbo.specs.Coded.{six}
 use Rattle.turbo.specs.Outputs.{outputs}
@@ -82,6 +82,10 @@ module _ (all : List ℕ) where
       ap₂ {A = List ℕ} {B = List (List ℕ)} ◌∷◌
       (rw (at, d0, d1, d2, d3, d4, d5))
       (stand (suc c) m (next a x) (next b y) us vs (omega arith) lu lv rest)
+
+-- 24 inputs as the number that the code packs them in
+pub inputs-row : (row : List Bool) → length row ≡ 24 → {x : ℕ} → x ≡ number row → high_first 24 x ≡ row
+inputs-row row l e = ap (high_first 24) e ∙ rw l at (high_first-number row)
 
 -- the numbers that the code makes of 24 clocks: the inputs x and y, and the taps of what they fed
 module _ (a b : Register) (us vs : List Bool) (lu : length us ≡ 24) (lv : length vs ≡ 24) where

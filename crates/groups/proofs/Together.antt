@@ -6,15 +6,14 @@ use mathlib.Core.List.{List, [], ◌∷◌, ◌++◌, map, map-append, append_as
 use Prim.Native.Nat.{ℕ, suc, ◌+◌, ◌%◌, ◌≤◌}
 use native.Mathlib.Nat.{add-suc, suc-add, mod-add-mod, zero-add, add-zero}
 use native.Mathlib.Omega.{arith}
-use lib.ListN.{length, get_or, take, drop, take-append-drop, length-map, length-drop}
-use lib.Seq.{drop-drop, length-take-le}
-use Rattle.bits.specs.Bits.{is_one, byte}
+use lib.ListN.{length, get_or, take, drop, take-append-drop}
+use lib.Seq.{length-take-le}
+use Rattle.bits.specs.Bits.{byte}
 use Rattle.links.specs.Patterns.{flags_at}
 use Rattle.turbo.specs.Encoder.{Register, next}
 use Rattle.turbo.specs.Coded.{six, passed, coded_from}
 use Rattle.turbo.specs.Working.Parity.{register_after}
 use Rattle.turbo.proofs.Passing.{map-passed}
-use Rattle.clocks.specs.Working.Encode.{left}
 use Rattle.groups.specs.Working.Together.{sixes, passed_from}
 
 -- ---- what the clocks pass on
@@ -24,15 +23,6 @@ map-passed_from f pattern s [] = refl
 map-passed_from f pattern s (row ∷ rows) =
     map-append f (passed (flags_at pattern s) row) (passed_from pattern (suc s) rows)
     ∙ ap₂ ◌++◌ (map-passed f (flags_at pattern s) row) (map-passed_from f pattern (suc s) rows)
-
--- where the pattern begins again
-again : {A : Type 0} (pattern : List (List ℕ)) (s m : ℕ) (rows : List (List A)) → s % length pattern ≡ 0 → passed_from pattern (s + m) rows ≡ passed_from pattern m rows
-unfolding passed_from flags_at
-again pattern s m [] e = refl
-again {A = A} pattern s m (row ∷ rows) e =
-    let n = length pattern in
-    let place : (s + m) % n ≡ m % n = sym (mod-add-mod s n m) ∙ ap (λ (k : ℕ). (k + m) % n) e ∙ ap (λ (k : ℕ). k % n) (zero-add m) in
-    ap₂ (λ (k : ℕ) (rest : List A). passed (get_or pattern k []) row ++ rest) place (rw (← add-suc s m) (again pattern s (suc m) rows e))
 
 -- ---- a block from a group on
 coded-group : (pattern tail : List (List ℕ)) (s : ℕ) (a b : Register) (us vs u v : List Bool) → length us ≡ length vs
@@ -48,31 +38,31 @@ coded-group pattern tail s a b (x ∷ us) (y ∷ vs) u v e =
     ∙ sym (append_assoc first (passed_from pattern (suc s) (sixes (next a x) (next b y) us vs)) rest)
     ∙ rw (add-suc s (length us), suc-add s (length us))
 
-module _ (pattern tail : List (List ℕ)) (u v : List ℕ) (s n : ℕ) (a b : Register) where
-  abbrev us : List Bool
-  us = map is_one (take n (drop s u))
+-- clocks behind whole periods are coded as those from clock 0 on, since the pattern begins again
+again : (pattern tail : List (List ℕ)) (s m : ℕ) (a b : Register) (u v : List Bool) → s % length pattern ≡ 0 → coded_from pattern tail (s + m) a b u v ≡ coded_from pattern tail m a b u v
+unfolding coded_from flags_at
+again pattern tail s m a b [] v e = refl
+again pattern tail s m a b (x ∷ u) [] e = refl
+again pattern tail s m a b (x ∷ u) (y ∷ v) e =
+    let n = length pattern in
+    let place : (s + m) % n ≡ m % n = sym (mod-add-mod s n m) ∙ ap (λ (k : ℕ). (k + m) % n) e ∙ ap (λ (k : ℕ). k % n) (zero-add m) in
+    ap₂ (λ (k : ℕ) (rest : List Bool). passed (get_or pattern k []) (six a b x y) ++ rest) place
+    (rw (← add-suc s m) (again pattern tail s (suc m) (next a x) (next b y) u v e))
 
-  abbrev vs : List Bool
-  vs = map is_one (take n (drop s v))
-
-  split : (l : List ℕ) → map is_one (drop s l) ≡ map is_one (take n (drop s l)) ++ map is_one (drop (s + n) l)
-  split l =
-      ap (map is_one) (sym (take-append-drop n (drop s l)))
-      ∙ map-append is_one (take n (drop s l)) (drop n (drop s l))
-      ∙ ap (λ (rest : List ℕ). map is_one (take n (drop s l)) ++ map is_one rest) (drop-drop n s l)
-
-  count : (l : List ℕ) → s + n ≤ length l → length (map is_one (take n (drop s l))) ≡ n
-  count l h = length-map (take n (drop s l)) is_one ∙ length-take-le n (drop s l) (omega (arith, length-drop s l))
-
-  pub left-group : s + n ≤ length u → s + n ≤ length v → s % length pattern ≡ 0
-      → left pattern tail u v s a b ≡ passed_from pattern 0 (map (map byte) (sixes a b us vs)) ++ left pattern tail u v (s + n) (register_after a us) (register_after b vs)
-  unfolding left
-  left-group h l e =
-      let rest = coded_from pattern tail (s + n) (register_after a us) (register_after b vs) (map is_one (drop (s + n) u)) (map is_one (drop (s + n) v)) in
-      let group : coded_from pattern tail s a b (map is_one (drop s u)) (map is_one (drop s v)) ≡ passed_from pattern s (sixes a b us vs) ++ rest =
-      rw (split u, split v) (rw (count u h) at (coded-group pattern tail s a b us vs (map is_one (drop (s + n) u)) (map is_one (drop (s + n) v)) (count u h ∙ sym (count v l)))) in
-      let first : passed_from pattern s (sixes a b us vs) ≡ passed_from pattern 0 (sixes a b us vs) = rw add-zero at (again pattern s 0 (sixes a b us vs) e) in
-      ap (map byte) group
-      ∙ map-append byte (passed_from pattern s (sixes a b us vs)) rest
-      ∙ ap (λ (p : List Bool). map byte p ++ map byte rest) first
-      ∙ ap (λ (p : List ℕ). p ++ map byte rest) (map-passed_from byte pattern 0 (sixes a b us vs))
+-- what is left at a group of n clocks is what the group passes on, and what is left behind it
+module _ (pattern tail : List (List ℕ)) (n : ℕ) (whole : n % length pattern ≡ 0) (a b : Register) (u v : List Bool) where
+  pub left-group : n ≤ length u → length u ≡ length v → map byte (coded_from pattern tail 0 a b u v)
+      ≡ passed_from pattern 0 (map (map byte) (sixes a b (take n u) (take n v)))
+      ++ map byte (coded_from pattern tail 0 (register_after a (take n u)) (register_after b (take n v)) (drop n u) (drop n v))
+  left-group h same =
+      let us = take n u in
+      let vs = take n v in
+      let lu : length us ≡ n = length-take-le n u h in
+      let lv : length vs ≡ n = length-take-le n v (omega arith) in
+      let group = passed_from pattern 0 (sixes a b us vs) in
+      let rest = coded_from pattern tail 0 (register_after a us) (register_after b vs) (drop n u) (drop n v) in
+      let split : coded_from pattern tail 0 a b u v ≡ group ++ rest =
+      ap₂ (coded_from pattern tail 0 a b) (sym (take-append-drop n u)) (sym (take-append-drop n v))
+      ∙ coded-group pattern tail 0 a b us vs (drop n u) (drop n v) (lu ∙ sym lv)
+      ∙ rw (lu, zero-add) (ap (◌++◌ group) (rw add-zero at (again pattern tail n 0 (register_after a us) (register_after b vs) (drop n u) (drop n v) whole))) in
+      ap (map byte) split ∙ map-append byte group rest ∙ ap (λ (p : List ℕ). p ++ map byte rest) (map-passed_from byte pattern 0 (sixes a b us vs))

@@ -1,39 +1,30 @@
 // A group of 24 clocks at a time (M.2092-1, Annex 2, 1.2.4.4): where the pattern begins again after them, every group passes on the same
 // places of what its clocks put out. Each of X, Y0, Y1, X', Y'0, Y'1 is a number with a bit to each clock, the first the highest.
-ghost use Rattle.std.specs.Prelude.{◌≡◌, true, map, ◌+◌, ◌≤◌, ◌<◌, length, take};
+ghost use Rattle.std.specs.Prelude.{◌≡◌, map, ◌%◌, ◌<◌, eqb, length};
 ghost use Rattle.lists.specs.Over.{Room};
 ghost use Rattle.lists.specs.Working.Laying.{Lays};
-ghost use Rattle.bits.specs.Bits.{all_bits};
-ghost use Rattle.encoder.specs.Working.Number.{register_of};
-ghost use Rattle.encoder.specs.Working.Inputs.{clocks_at};
-ghost use Rattle.clocks.specs.Working.Encode.{AllAtMostTwice};
+ghost use Rattle.links.specs.Working.Clocks.{clocks_of};
 ghost use Rattle.groups.specs.Working.Together.{passed_from};
-ghost use Rattle.groups.specs.Working.Group.{in_groups, no_places, places_of, places_from, digit, Puts};
+ghost use Rattle.groups.specs.Working.Group.{places_of, places_from, digit, Puts};
 
-use clocks::lay;
-use encoder::{last, many, packed, y0, y1};
+use clocks::{Inputs, Registers, lay};
+use encoder::{Register, packed, y0, y1};
+use links::Flags;
 
 // What 24 clocks put out, X Y0 Y1 X' Y'0 Y'1 a number each, and the registers after them.
+// There are eight numbers, the last two idle, so that every place of a byte has its number.
 #[derive(Clone, Copy)]
 pub struct Put {
     pub bits: [u32; 8],
-    pub a: u32,
-    pub b: u32,
+    pub registers: Registers,
 }
 
-// How many of k clocks may go in groups: none where 24 clocks are not whole periods.
-pub fn limit(k: usize, period: usize) -> usize
+// Whether 24 clocks are whole periods.
+pub fn whole(period: usize) -> bool
     requires { 0 < period }
-    ensures { result ≡ in_groups k period }
+    ensures { result ≡ eqb (24 % period) 0 }
 {
-    if 24 % period == 0 { k } else { 0 }
-}
-
-// Room for the places of 24 clocks, each at most twice.
-pub fn no_places() -> [u8; 288]
-    ensures { result ≡ no_places }
-{
-    [0; 288]
+    24 % period == 0
 }
 
 // The places of the six bits of clock c.
@@ -45,55 +36,51 @@ fn places_of(c: usize) -> [u8; 6]
     [x, x + 32, x + 64, x + 96, x + 128, x + 160]
 }
 
-// Lays the places that pass in a group; answers how many they are.
-pub fn lay_places(pattern: [[u8; 6]; 10], period: usize, places: &mut [u8]) -> usize
-    requires { (0 < period) × (period ≤ 10) × AllAtMostTwice pattern × (length places.old ≡ 288) }
-    ensures { Lays 0 (passed_from (take period pattern) 0 (places_from 0 24)) places.old places.new result }
+// Lays the places that pass in a group, each at most twice; answers how many they are. c is no index: it is the clock, and names its places.
+pub fn lay_places(flags: Flags, places: &mut [u8; 288]) -> usize
+    ensures { Lays 0 (passed_from (clocks_of flags) 0 (places_from 0 24)) places.old places.new result }
 {
+    let clocks = flags.clocks();
     let mut to = 0;
     for c in 0..24 {
-        let flags = pattern[c % period];
-        to = lay(flags, places_of(c), to, places);
+        to = lay(&clocks[c % flags.period], places_of(c), to, places);
     }
     to
 }
 
-// 24 clocks from s on, the registers a and b.
-pub fn put_group(a: u32, b: u32, u: &[u8], v: &[u8], s: usize) -> Put
-    requires { (a < 8) × (b < 8) × (s + 24 ≤ length u.now) × (s + 24 ≤ length v.now) × (all_bits u.now ≡ true) × (all_bits v.now ≡ true) }
-    ensures { Puts (register_of a) (register_of b) (clocks_at 24 u.now s) (clocks_at 24 v.now s) result.bits result.a result.b }
+// What the clocks of a group put out.
+pub fn put_group(registers: Registers, group: Inputs) -> Put
+    requires { length group.u.now ≡ 24 }
+    ensures { Puts registers.a registers.b group.entry.u.now group.entry.v.now result.bits result.registers.a result.registers.b }
 {
-    let x = packed(u, s);
-    let y = packed(v, s);
-    let fed = many(a, x);
-    let second = many(b, y);
-    let a_y0 = y0(fed);
-    let a_y1 = y1(fed);
-    let b_y0 = y0(second);
-    let b_y1 = y1(second);
+    let x = packed(group.u);
+    let y = packed(group.v);
+    let a = registers.a.many(x);
+    let b = registers.b.many(y);
     Put {
-        bits: [x, a_y0, a_y1, y, b_y0, b_y1, 0, 0],
-        a: last(fed),
-        b: last(second),
+        bits: [x, y0(a), y1(a), y, y0(b), y1(b), 0, 0],
+        registers: Registers {
+            a: Register::last(a),
+            b: Register::last(b),
+        },
     }
 }
 
-// A place as an index.
-fn wide(place: u8) -> usize
-    ensures { (result ≡ place) × (result < 256) }
+// What stands at a place of a group.
+fn digit(all: &[u32; 8], place: u8) -> u8
+    ensures { result ≡ digit all.now place }
 {
-    place as usize
+    ((all[usize::from(place / 32)] >> (place % 32)) % 2) as u8
 }
 
-// Lays what stands at the first `count` places of a group.
-pub fn lay_digits(all: [u32; 8], places: &[u8], count: usize, at: usize, out: &mut [u8]) -> usize
-    requires counted { count ≤ length places.now }
-    requires room { Room at (map (digit all) (take count places.now)) out.old }
-    ensures { Lays at (map (digit all) (take count places.now)) out.old out.new result }
+// Lays what stands at some places of a group; answers the place behind. The buffer is indexed, since nothing is known of a slice behind a
+// `zip` with its iter_mut.
+pub fn lay_digits(all: [u32; 8], places: &[u8], at: usize, out: &mut [u8]) -> usize
+    requires { Room at (map (digit all) places.now) out.old }
+    ensures { Lays at (map (digit all) places.now) out.old out.new result }
 {
-    for i in 0..count {
-        let place = wide(places[i]);
-        out[at + i] = ((all[place / 32] >> (place % 32)) % 2) as u8;
+    for (i, &place) in places.iter().enumerate() {
+        out[at + i] = digit(&all, place);
     }
-    at + count
+    at + places.len()
 }

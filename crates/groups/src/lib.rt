@@ -4,40 +4,37 @@
 
 mod group;
 
+ghost use Rattle.std.specs.Prelude.{map};
 ghost use Rattle.lists.specs.Over.{Room};
 ghost use Rattle.lists.specs.Working.Laying.{Lays};
-ghost use Rattle.clocks.specs.Working.Encode.{Ready, coded_bytes};
+ghost use Rattle.bits.specs.Bits.{byte};
+ghost use Rattle.links.specs.Working.Clocks.{clocks_of};
+ghost use Rattle.turbo.specs.Encoder.{start};
+ghost use Rattle.turbo.specs.Coded.{coded_from};
 
-use clocks::lay_rest;
-use group::{lay_digits, lay_places, put_group};
+use clocks::{Inputs, Registers, lay_rest};
+use group::{lay_digits, lay_places, put_group, whole};
+use links::Flags;
+use lists::cleared;
 
-// Lays the coded bits of a block, u its bits and v the same interleaved; answers how many they are.
-pub fn encode(
-    u: &[u8],
-    v: &[u8],
-    pattern: [[u8; 6]; 10],
-    period: usize,
-    tail: [[u8; 6]; 6],
-    out: &mut [u8],
-) -> usize
-    requires ready { Ready u.now v.now pattern period tail }
-    requires room { Room 0 (coded_bytes u.now v.now pattern period tail) out.old }
-    ensures { Lays 0 (coded_bytes u.now v.now pattern period tail) out.old out.new result }
+// Lays the coded bits of a block, one to a byte; answers how many they are.
+pub fn encode(inputs: Inputs, flags: Flags, out: &mut [u8]) -> usize
+    requires { Room 0 (map byte (coded_from (clocks_of flags) flags.tail 0 start start inputs.u.now inputs.v.now)) out.old }
+    ensures { Lays 0 (map byte (coded_from (clocks_of flags) flags.tail 0 start start inputs.entry.u.now inputs.entry.v.now)) out.old out.new result }
 {
-    let limit = group::limit(u.len(), period);
-    let mut places = group::no_places();
-    let count = lay_places(pattern, period, &mut places);
+    let in_groups = whole(flags.period);
+    let mut room = cleared::<u8, 288>(0);
+    let count = lay_places(flags, &mut room);
+    let places = &room[..count];
+    let mut rest = inputs;
+    let mut registers = Registers::start();
     let mut at = 0;
-    let mut a: u32 = 0;
-    let mut b: u32 = 0;
-    let mut s = 0;
-    while s + 24 <= limit {
-        let put = put_group(a, b, u, v, s);
-        let bits = put.bits;
-        a = put.a;
-        b = put.b;
-        at = lay_digits(bits, &places, count, at, out);
-        s = s + 24;
+    while in_groups && rest.u.len() >= 24 {
+        let (group, behind) = rest.split_at(24);
+        let put = put_group(registers, group);
+        at = lay_digits(put.bits, places, at, out);
+        registers = put.registers;
+        rest = behind;
     }
-    lay_rest(u, v, pattern, period, tail, s, a, b, at, out)
+    lay_rest(rest, flags, registers, at, out)
 }

@@ -2,28 +2,38 @@
 -- Assumes nothing.
 use mathlib.Core.Path.{◌≡◌, sym, ap, ◌∙◌}
 use mathlib.Core.Bool.{Bool}
-use mathlib.Core.List.{List, ◌++◌, map}
+use mathlib.Core.List.{List, [], append-nil, map}
 use Prim.Native.Nat.{ℕ}
-use native.Mathlib.Nat.{zero-add}
-use lib.ListN.{length, drop, length-map}
-use Rattle.lists.specs.Working.Laying.{Lays}
-use Rattle.lists.proofs.Over.{over_zero}
+use lib.Dec.{T}
+use lib.ListN.{length, length-map}
 use Rattle.bits.specs.Bits.{byte}
 use Rattle.links.specs.declared.Row.{Row}
-use Rattle.turbo.specs.Coded.{coded}
-use Rattle.scrambler.specs.Scrambler.{loading_word, loaded, scrambled_by}
+use Rattle.links.specs.Patterns.{pattern_of, tail_of}
+use Rattle.links.specs.Sizes.{image_length}
+use Rattle.links.specs.Working.Good.{good_row}
+use Rattle.turbo.specs.Encoder.{start}
+use Rattle.turbo.specs.Interleaver.{interleaved}
+use Rattle.turbo.specs.Coded.{coded_from, coded}
+use Rattle.turbo.proofs.Lengths.{length-coded}
+use Rattle.scrambler.specs.Scrambler.{loading_word}
 use Rattle.scrambler.specs.Working.Scrambles.{Scrambles}
 use Rattle.scrambler.proofs.Calls.{scrambles_row}
-use Rattle.scrambler.proofs.Sequence.{length-scrambled_by}
 use Rattle.blocks.specs.Block.{image_of}
 
-pub image_composed : (row : Row) (u : List Bool) (old coded-out new : List ℕ) (n state register : ℕ) → Lays 0 (map byte (coded row u)) old coded-out n → state ≡ loading_word
-    → Scrambles state n coded-out new register → Lays 0 (map byte (image_of row u)) old new n
-unfolding image_of
-image_composed row u old coded-out new n state register l e s =
-    let bits = coded row u in
-    let rest = drop (length (map byte bits)) old in
-    let long : length bits ≡ n = sym (l.0 ∙ zero-add (length (map byte bits)) ∙ length-map bits byte) in
-    let same : length (map byte (scrambled_by loaded bits)) ≡ length (map byte bits) = length-map (scrambled_by loaded bits) byte ∙ length-scrambled_by loaded bits ∙ sym (length-map bits byte) in
-    let mixed-out = rw e at (scrambles_row s bits rest (l.1 ∙ over_zero (map byte bits) old) long) in
-    (l.0 ∙ rw same, mixed-out ∙ ap (λ (m : ℕ). map byte (scrambled_by loaded bits) ++ drop m old) (sym same) ∙ sym (over_zero (map byte (scrambled_by loaded bits)) old))
+module _ (row : Row) (u : List Bool) where
+  -- what is handed to the encoder is the row's
+  pub coded_lem : {pattern tail : List (List ℕ)} {v : List Bool} → (pattern ≡ pattern_of row.pattern) × (tail ≡ tail_of row.tail) → v ≡ interleaved row u
+      → coded_from pattern tail 0 start start u v ≡ coded row u
+  unfolding coded
+  coded_lem flags taken = rw (flags.0, flags.1, taken)
+
+  pub length-coded_bytes : T (good_row row) → length u ≡ row.k → length (map byte (coded row u)) ≡ image_length row
+  length-coded_bytes good long = length-map (coded row u) byte ∙ length-coded row good u long
+
+  -- a fresh register runs over all of the coded bits
+  pub image_composed : {laid new : List ℕ} {state register : ℕ} → laid ≡ map byte (coded row u) → state ≡ loading_word → Scrambles state (length laid) laid new register
+      → new ≡ map byte (image_of row u)
+  unfolding image_of
+  image_composed {laid} e loads s =
+      let long : length (coded row u) ≡ length laid = sym (ap length e ∙ length-map (coded row u) byte) in
+      rw (loads, append-nil) at (scrambles_row s (coded row u) [] (e ∙ sym (append-nil (map byte (coded row u)))) long)

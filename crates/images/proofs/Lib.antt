@@ -1,3 +1,1 @@
-pub mod Cleared
 pub mod Composed
-pub mod Lent

@@ -2,13 +2,13 @@
 -- Assumes nothing.
 use mathlib.Core.Path.{◌≡◌, sym, ap, ap₂, ◌∙◌}
 use Prim.Native.Nat.{ℕ, ◌+◌, ◌-◌, ◌*◌, ◌%◌, ◌<◌, ◌≤◌}
-use native.Mathlib.Nat.{le_of_lt, mod-lt, zero-mod, add-mod, mul-add, add-mul, mul_assoc, mul_comm, mul-zero, zero-mul, mul-le-mul_right}
+use native.Mathlib.Nat.{le_of_lt, mod-lt, zero-mod, add-mod, mul-add, add-mul, mul-le-mul_right}
 use native.Mathlib.Omega.{arith}
 use lib.Arith.{digits_lt, digits_div, digits_mod, mod-mul}
 use lib.Dec.{T}
 use Rattle.links.specs.declared.Row.{Row}
 use Rattle.links.specs.Working.Good.{good_row}
-use Rattle.links.proofs.Facts.{prime, sizes}
+use Rattle.links.proofs.Facts.{prime, sizes, block-is}
 use Rattle.turbo.proofs.Permutation.{half, t_from, c_from, digits_position}
 use Rattle.interleaver.specs.Working.Starts.{distance, step_of}
 
@@ -25,18 +25,29 @@ module _ (row : Row) (good : T (good_row row)) where
   some_width = (sizes row good).width
 
   -- k2 cells of c, each k1 wide
-  pub block_of-cells : row.k ≡ row.k2 * row.k1
-  block_of-cells = sym (sizes row good).product ∙ mul_comm row.k1 row.k2
+  block_of-cells : row.k ≡ row.k2 * row.k1
+  block_of-cells = grind (arith, sizes row good)
+
+  pub k1_within : row.k1 ≤ row.k
+  k1_within = grind (arith, sizes row good)
+
+  pub k2_within : row.k2 ≤ row.k
+  k2_within = grind (arith, sizes row good)
+
+  -- row i of pairs lies in the block, and behind the last the block ends
+  pub row_inside : (i : ℕ) → i < half row → 2 * (i * row.k2) + 2 * row.k2 ≤ row.k
+  row_inside i h = grind (arith, block-is row good, mul-le-mul_right row.k2 h)
+
+  pub rows_end : 2 * (half row * row.k2) ≡ row.k
+  rows_end = sym (block-is row good)
 
   pub t_inside : (i : ℕ) → t_from row i < half row
   t_inside i = mod-lt (19 * i + 1) (sizes row good).half
 
   pub position_cell : (m i j : ℕ) → digits_position row m i j ≡ cell_at row m i j + 2 - m
   position_cell m i j =
-      let c = c_from row m (t_from row i) j in
-      let pairs : c * (2 * half row) ≡ c * row.k1 = ap (λ (k1 : ℕ). c * k1) (sizes row good).even in
-      let twice : 2 * (c * half row) ≡ c * (2 * half row) = sym (mul_assoc 2 c (half row)) ∙ ap (λ (x : ℕ). x * half row) (mul_comm 2 c) ∙ mul_assoc c 2 (half row) in
-      omega (arith, pairs, twice)
+      let pairs = ap (λ (k1 : ℕ). c_from row m (t_from row i) j * k1) (sizes row good).even in
+      grind (arith, pairs)
 
   -- both places of a pair lie in the block
   pub cell_inside : (m i j : ℕ) → cell_at row m i j + 1 < row.k
@@ -61,10 +72,7 @@ module _ (row : Row) (good : T (good_row row)) where
 
   -- a row begins at 2 t
   pub row-begins : (i : ℕ) → 2 * t_from row i ≡ cell_at row 0 i 0
-  row-begins i =
-      let p = prime row (t_from row i % 8) in
-      let none : (p * 0 + 21 * 0) % row.k2 ≡ 0 = ap (λ (c : ℕ). c % row.k2) (omega (arith, mul-zero p)) ∙ zero-mod row.k2 in
-      omega (arith, ap (λ (c : ℕ). c * row.k1) none, zero-mul row.k1)
+  row-begins i = grind (arith, zero-mod row.k2)
 
   -- the next pair of the row
   pub next_pair : (i j : ℕ) → (cell_at row 0 i j + step_of row (t_from row i)) % row.k ≡ cell_at row 0 i (j + 1)
@@ -83,3 +91,6 @@ module _ (row : Row) (good : T (good_row row)) where
   -- t of the next row
   pub next_t : (i : ℕ) → (t_from row i + 19 % half row) % half row ≡ t_from row (i + 1)
   next_t i = let on : 19 * i + 1 + 19 ≡ 19 * (i + 1) + 1 = omega arith in sym (add-mod (19 * i + 1) 19 (half row)) ∙ ap (λ (x : ℕ). x % half row) on
+
+-- what the code's goals ask of a good row
+pub ruleset good_rows = (sizes, k1_within, k2_within, row_inside, rows_end, t_inside, next_t, distance_small)

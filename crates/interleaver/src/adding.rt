@@ -1,4 +1,5 @@
-// Remainders and products by adding and subtracting (document 02, K5): the cheapest board has a slow multiplier and no divider.
+// Remainders and products by adding and subtracting (document 02, K5): the cheapest board has a slow multiplier and no divider. The loops stand
+// for the operators that the library has.
 ghost use Rattle.std.specs.Prelude.{◌≡◌, ◌+◌, ◌*◌, ◌%◌, ◌^◌, ◌<◌, ◌≤◌};
 
 // x modulo n: n is subtracted as often as it goes.

@@ -4,15 +4,12 @@
 
 mod adding;
 
-ghost use Rattle.std.specs.Prelude.{◌≡◌, true, map, ◌+◌, ◌*◌, ◌/◌, ◌%◌, ◌^◌, ◌<◌, T, length};
-ghost use Rattle.bits.specs.Bits.{is_one, byte, all_bits};
-ghost use Rattle.links.specs.Working.Good.{good_row};
-ghost use Rattle.lists.specs.Over.{over};
+ghost use Rattle.std.specs.Prelude.{◌≡◌, ◌+◌, ◌*◌, ◌/◌, ◌<◌, length};
 ghost use Rattle.turbo.specs.Interleaver.{interleaved_from, interleaved};
 ghost use Rattle.interleaver.specs.Working.Starts.{distance, step_of, start_of};
 
 use adding::{reduced, stepped, times};
-use links::Row;
+use links::{BlockBits, Link};
 
 // What row i of pairs starts with: the place of its first input, its t, and how far each of its pairs lies from the one before.
 #[derive(Clone, Copy)]
@@ -24,82 +21,84 @@ struct Start {
 }
 
 // How far two positions lie apart whose c are n apart: k1 times n, which is reduced modulo k2.
-fn distance(row: Row, n: usize) -> usize
-    requires { T (good_row row) × (n < 2 ^ 32) }
-    ensures { result ≡ distance row n }
+#[tactic(auto, using(crate::proofs::Stepping::good_rows))]
+fn distance(link: Link, n: usize) -> usize
+    ensures { result ≡ distance link.row n }
 {
-    let c = reduced(n, row.k2 as usize);
-    times(row.k1 as usize, c)
+    let c = reduced(n, link.row.k2);
+    times(link.row.k1, c)
 }
 
 // The step along the row with this t, whose prime is that of q = t mod 8 + 1.
-fn step_of(row: Row, t: usize) -> usize
-    requires { T (good_row row) }
-    ensures { result ≡ step_of row t }
+fn step_of(link: Link, t: usize) -> usize
+    ensures { result ≡ step_of link.row t }
 {
-    let primes = row.primes;
-    let p = primes[t % 8] as usize;
-    distance(row, p)
+    distance(link, link.row.primes[t % 8] as usize)
 }
 
 // What the first row starts with: its t is 1, or 0 where there is no other.
-fn first(row: Row) -> Start
-    requires { T (good_row row) }
-    ensures { result ≡ start_of row 0 }
+#[tactic(auto, using(crate::proofs::Stepping::good_rows), unfolding(crate::specs::Working::Starts::start_of))]
+fn first(link: Link) -> Start
+    ensures { result ≡ start_of link.row 0 }
 {
-    let t = reduced(1, row.k1 as usize / 2);
+    let t = reduced(1, link.row.k1 / 2);
     Start {
         i: 0,
         place: 0,
-        t: t,
-        step: step_of(row, t),
+        t,
+        step: step_of(link, t),
     }
 }
 
 // What the next row starts with: its t is 19 further on.
-fn next(row: Row, start: Start) -> Start
-    requires { T (good_row row) × (start.i < row.k1 / 2) × (start ≡ start_of row start.i) }
-    ensures { result ≡ start_of row (start.i + 1) }
+#[tactic(auto, using(crate::proofs::Stepping::good_rows), unfolding(crate::specs::Working::Starts::start_of))]
+fn next(link: Link, start: Start) -> Start
+    requires { (start.i < link.row.k1 / 2) × (start ≡ start_of link.row start.i) }
+    ensures { result ≡ start_of link.row (start.i + 1) }
 {
-    let half = row.k1 as usize / 2;
+    let half = link.row.k1 / 2;
     let by = reduced(19, half);
     let t = stepped(start.t, by, half);
-    let step = step_of(row, t);
-    let place = start.place + 2 * row.k2 as usize;
+    let step = step_of(link, t);
     Start {
         i: start.i + 1,
-        place: place,
-        t: t,
-        step: step,
+        place: start.place + 2 * link.row.k2,
+        t,
+        step,
     }
 }
 
-// Lays the inputs of a row, two to a pair. Places count from 0, so x is π - 2 at the first of a pair.
-fn lay_row(row: Row, start: Start, u: &[u8], v: &mut [u8])
-    requires { T (good_row row) × (start.i < row.k1 / 2) × (start ≡ start_of row start.i) × (length u.now ≡ row.k) × (length v.old ≡ row.k) × (all_bits u.now ≡ true) }
-    ensures { v.new ≡ over start.place (map byte (interleaved_from row (map is_one u.now) (start.place + 1) (2 * row.k2))) v.old }
+// Lays the inputs of a row, two to a pair: m is s mod 2. Places count from 0, so x is π - 2 at the first of a pair. Pairs are not cut by
+// chunks_exact_mut, since the library says nothing of a slice after it.
+#[tactic(auto, using(crate::proofs::Stepping::good_rows), unfolding(crate::specs::Working::Starts::start_of))]
+fn lay_row(block: BlockBits, start: Start, row: &mut [bool])
+    requires { (start.i < block.link.row.k1 / 2) × (start ≡ start_of block.link.row start.i) × (length row.old ≡ 2 * block.link.row.k2) }
+    ensures { row.new ≡ interleaved_from block.entry.link.row block.entry.bits.now (start.place + 1) (2 * block.entry.link.row.k2) }
 {
-    let apart = distance(row, 21);
+    let u = block.bits;
+    let apart = distance(block.link, 21);
     let mut x = 2 * start.t;
-    for j in 0..row.k2 as usize {
-        let s = start.place + 2 * j;
-        let first = x + 1;
-        let second = stepped(x, apart, row.k as usize);
-        v[s] = u[first];
-        v[s + 1] = u[second];
-        x = stepped(x, start.step, row.k as usize);
+    for (s, bit) in row.iter_mut().enumerate() {
+        if s % 2 == 0 {
+            *bit = u[x + 1];
+        } else {
+            *bit = u[stepped(x, apart, u.len())];
+            x = stepped(x, start.step, u.len());
+        }
     }
 }
 
-// The second encoder's inputs, in order.
-pub fn interleave(row: Row, u: &[u8], v: &mut [u8])
-    requires { T (good_row row) × (length u.now ≡ row.k) × (length v.old ≡ row.k) × (all_bits u.now ≡ true) }
-    ensures { v.new ≡ map byte (interleaved row (map is_one u.now)) }
+// The second encoder's inputs, in order: row by row, whose number is in what it starts with, since each is stepped from the one before.
+#[tactic(auto, using(crate::proofs::Stepping::good_rows), unfolding(crate::specs::Working::Starts::start_of))]
+pub fn interleave(block: BlockBits, v: &mut [bool])
+    requires { length v.old ≡ block.link.row.k }
+    ensures { v.new ≡ interleaved block.entry.link.row block.entry.bits.now }
 {
-    let half = row.k1 as usize / 2;
-    let mut start = first(row);
-    while start.i < half {
-        lay_row(row, start, u, v);
-        start = next(row, start);
+    let link = block.link;
+    let width = 2 * link.row.k2;
+    let mut start = first(link);
+    while start.i < link.row.k1 / 2 {
+        lay_row(block, start, &mut v[start.place..start.place + width]);
+        start = next(link, start);
     }
 }

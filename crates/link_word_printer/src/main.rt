@@ -7,26 +7,18 @@ ghost use Rattle.std.specs.Prelude.{◌+◌, ◌≤◌, length};
 use std::io;
 use std::io::{Read, Write};
 
-// One read into the buffer behind the bytes it has; answers how many came, none where the read fails.
-fn read_more<R: Read>(input: &mut R, buffer: &mut [u8], have: usize) -> usize
-    requires { have ≤ length buffer.old }
-    ensures { have + result ≤ length buffer.old }
-{
-    input.read(&mut buffer[have..]).unwrap_or(0)
-}
-
-// Reads until a newline has come, the input ends or the buffer is full; answers how many bytes the buffer has.
+// Reads until a newline has come, the input ends or the buffer is full; answers how many bytes the buffer has. A read that fails ends the
+// input. The buffer has a fixed size, since there is no heap for a line of any length.
 fn read_line<R: Read>(input: &mut R, buffer: &mut [u8]) -> usize
     ensures { result ≤ length buffer.old }
 {
     let mut have = 0;
     while have < buffer.len() {
-        let came = read_more(input, buffer, have);
-        let all = have + came;
-        if came == 0 || printer_text::line_end(&buffer[have..all]) < came {
-            return all;
+        let came = input.read(&mut buffer[have..]).unwrap_or(0);
+        have += came;
+        if came == 0 || buffer[have - came..have].contains(&b'\n') {
+            break;
         }
-        have = all;
     }
     have
 }

@@ -8,9 +8,11 @@ use native.Mathlib.Omega.{arith}
 use lib.Dec.{T, eqb→eq, ltb→lt, leb→le}
 use lib.ListN.{length, get_or, take, drop, length-take, length-drop}
 use lib.Seq.{get_or-take, get_or-drop}
+use Rattle.std.proofs.lemmas.Grind.{common_steps}
 use Rattle.lists.proofs.Every.{every-at, every-place, together_at}
 use Rattle.links.specs.declared.Row.{Row}
 use Rattle.links.specs.Patterns.{pattern_of, tail_of, flags_at}
+use Rattle.links.specs.Working.Twice.{AllAtMostTwice}
 use Rattle.links.specs.Working.Good.{at_most, good_clock, good_pattern, silent, of_first, of_second, good_tail, good_row}
 
 -- a clock of a pattern
@@ -52,6 +54,10 @@ pattern row t =
 pub clock-at : (clocks : List (List ℕ)) → Pattern clocks → (s : ℕ) → Clock (flags_at clocks s)
 unfolding flags_at
 clock-at clocks p s = p.clock (s % length clocks) (mod-lt s p.some)
+
+-- no flag of a pattern sends a bit more than twice
+pub at_most_twice : (clocks : List (List ℕ)) → Pattern clocks → AllAtMostTwice clocks
+at_most_twice clocks p c x = grind (arith, common_steps, p.clock c)
 
 -- a clock of a tail
 pub record Silent (of : List ℕ → List ℕ) (flags : List ℕ) : Type 0 where

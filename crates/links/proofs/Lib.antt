@@ -1,9 +1,8 @@
+pub mod Clocks
+pub mod Entries
 pub mod Facts
-pub mod FoundRow
 pub mod Good
 pub mod GoodFlags
-pub mod Names
 pub mod Padded
 pub mod PassedOn
-pub mod Places
 pub mod Search

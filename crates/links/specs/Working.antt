@@ -1,2 +1,4 @@
+pub mod Clocks
 pub mod Good
 pub mod Padded
+pub mod Twice

@@ -1,15 +1,13 @@
--- What a test of every element says of the element at a place, of a part of the list, and of what a loop that scans has left to test;
--- and of lists put together.
+-- What a test of every element says of the element at a place and of a part of the list, and of lists put together.
 -- Assumes nothing.
-use mathlib.Core.Path.{◌≡◌, refl, ap₂, ◌∙◌}
+use mathlib.Core.Path.{◌≡◌, refl, ap, ap₂}
 use mathlib.Core.Bool.{Bool, true, false, ◌&&◌, true≢false}
 use mathlib.Core.List.{List, [], ◌∷◌, ◌++◌}
-use Prim.Native.Nat.{ℕ, zero, suc, ◌+◌, ◌<◌, ◌≤◌, zero-le, suc-le-suc}
+use Prim.Native.Nat.{ℕ, zero, suc, ◌<◌, zero-le, suc-le-suc}
 use native.Mathlib.Nat.{le_of_suc-le-suc, not-suc-le-zero}
-use native.Mathlib.Numerals.{add-one}
 use lib.Dec.{T}
-use lib.ListN.{length, get_or, take, drop, replicate, drop_of_length-le}
-use lib.Seq.{drop-cons}
+use lib.ListN.{length, get_or, take, drop, replicate}
+use Rattle.std.specs.List.{list_all}
 use Rattle.lists.specs.Every.{every}
 use Rattle.lists.specs.Working.Together.{together}
 use Rattle.lists.proofs.Tests.{both_left, both_right, both_true}
@@ -51,23 +49,12 @@ module _ {A : Type 0} (test : A → Bool) (none : A) where
       first true q later f = let at = later f in (suc at.0, suc-le-suc at.1, at.2)
       first false q later f = (0, suc-le-suc zero-le, q)
 
-  -- ---- a loop that scans: what is left to test at i is the element at i and what is left at i + 1
-  pub every_more : (xs : List A) (i : ℕ) → i < length xs → every test (drop i xs) ≡ (test (get_or xs i none) && every test (drop (i + 1) xs))
-  unfolding every
-  every_more xs i h = rw (drop-cons xs i none h, add-one)
-
-  -- where the element at i fails, the test of all fails; where it passes, what is left at i + 1 decides
-  pub every-stops : (xs : List A) (i : ℕ) → i < length xs → test (get_or xs i none) ≡ false → every test (drop i xs) ≡ false
-  every-stops xs i h e = every_more xs i h ∙ rw e
-
-  pub every-passes : (xs : List A) (i : ℕ) → i < length xs → test (get_or xs i none) ≡ true → every test (drop i xs) ≡ every test (drop (i + 1) xs)
-  every-passes xs i h e = every_more xs i h ∙ rw e
-
 module _ {A : Type 0} (test : A → Bool) where
-  -- at the end nothing is left to test
-  pub every-done : (xs : List A) (i : ℕ) → length xs ≤ i → every test (drop i xs) ≡ true
+  -- the test is std's
+  pub every_is : (xs : List A) → every test xs ≡ list_all test xs
   unfolding every
-  every-done xs i h = rw (drop_of_length-le xs h)
+  every_is [] = refl
+  every_is (x ∷ xs) = ap (λ b. test x && b) (every_is xs)
 
   -- ---- the front and the rest of a list pass as the whole does
   pub every_take : (n : ℕ) (xs : List A) → every test xs ≡ true → every test (take n xs) ≡ true

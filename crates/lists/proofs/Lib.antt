@@ -1,4 +1,3 @@
-pub mod Edit
 pub mod Every
 pub mod Line
 pub mod Over

@@ -9,6 +9,7 @@ use native.Mathlib.Numerals.{add-one}
 use native.Mathlib.Omega.{arith}
 use lib.ListN.{length, set, take, drop, take-append-drop, drop_of_length-le, length-append, length-drop}
 use lib.Seq.{set_split, append_snoc, take_at, drop_at, take-append-le, drop-append-le, take-append-add, drop-append-add, drop-drop, length-take-le}
+use borrow.Rule.Slice.PartMut.{put_mid}
 use Rattle.lists.specs.Every.{every}
 use Rattle.lists.specs.Over.{over, Room}
 use Rattle.lists.specs.Working.Laying.{Lays, Laying}
@@ -29,6 +30,12 @@ module _ {A : Type 0} where
   pub over-set : (at : ℕ) (v : A) (old : List A) → at < length old → set old at v ≡ over at (v ∷ []) old
   unfolding over
   over-set at v old h = set_split old at v h ∙ sym (append_snoc (take at old) v (drop (suc at) old)) ∙ rw add-one
+
+  -- what is written into a part of a list is laid over it
+  pub put_mid-over : (at n : ℕ) (p old : List A) → n ≡ length p → put_mid at n old p ≡ over at p old
+  unfolding over
+  put_mid-over at n p old e =
+      rw e (sym (append_assoc (take at old) p (drop (length p) (drop at old))) ∙ ap (λ (rest : List A). take at old ++ p ++ rest) (drop-drop (length p) at old))
 
   front : (at : ℕ) (p old : List A) → Room at p old → length (take at old ++ p) ≡ at + length p
   front at p old h = length-append (take at old) p ∙ ap (λ (n : ℕ). n + length p) (length-take-le at old (omega arith))

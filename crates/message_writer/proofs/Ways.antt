@@ -8,8 +8,10 @@ use lib.Dec.{ltb}
 use lib.ListN.{length, replicate}
 use borrow.Author.Tests.{lt-ltb, le-ltb, ltb-true, ltb-false}
 use Rattle.answers.specs.Numbers.{no_room, past_end, no_type, long_body}
+use Rattle.lists.proofs.Over.{over-nil}
 use Rattle.message_writer.specs.Message.{is_no_type, longest_body, total_of, message_of}
 use Rattle.message_writer.specs.Calls.{refusal, laying, write_message, zero_fill}
+use Rattle.message_writer.proofs.Bytes.{message-bytes}
 
 module _ (start type source : ℕ) (body : List ℕ) (room : ℕ) where
   -- what is answered
@@ -70,6 +72,9 @@ module _ (start type source : ℕ) (body : List ℕ) (room : ℕ) where
           let s = ltb-false _ _ l in
           let h = ltb-false _ _ f in
           writes i t s h (write_done i t s h)
+
+-- what a call is shown by: the ways, what a refusal lays, and what a message is
+pub ruleset write_laws = (write-past, write-no_type, write-long, write-full, write_done, over-nil, message-bytes)
 
 -- ---- zero fill
 module _ (start room : ℕ) where

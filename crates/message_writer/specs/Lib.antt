@@ -1,3 +1,4 @@
 pub mod Calls
 pub mod Message
 pub mod Several
+pub mod Working

@@ -1,13 +1,16 @@
 // Laying messages and zero fill into a datagram (document 02, K6; M.2092-1, Annex 4, 4.9).
 #![tactic(auto)]
 
-ghost use Rattle.std.specs.Prelude.{◌≡◌, ◌∷◌, ◌++◌, ◌+◌, ◌-◌, ◌≤◌, length};
+ghost use Rattle.std.specs.Prelude.{◌≡◌, ◌++◌, ◌+◌, ◌≤◌, length};
 ghost use Rattle.lists.specs.Over.{over};
 ghost use Rattle.answers.specs.Outcome.{WroteAt};
-ghost use Rattle.message_writer.specs.Message.{is_no_type, high_byte_first};
-ghost use Rattle.message_writer.specs.Calls.{refused, laid, write_message, zero_fill};
+ghost use Rattle.message_writer.specs.Message.{is_no_type};
+ghost use Rattle.message_writer.specs.Calls.{write_message, zero_fill};
+ghost use Rattle.message_writer.specs.Working.Answer.{laid_answer};
 
-// What laying answers: how many bytes were laid. A zero fill can be longer than 32 bits count.
+use answers::Refusal;
+
+// What C gets of laying: how many bytes were laid. A zero fill can be longer than 32 bits count.
 #[repr(C)]
 #[derive(Clone, Copy)]
 pub struct Laid {
@@ -15,18 +18,23 @@ pub struct Laid {
     pub count: u64,
 }
 
-fn refuse(status: u32) -> Laid
-    ensures { result ≡ refused status }
-{
-    Laid { status, count: 0 }
-}
+impl From<Result<usize, Refusal>> for Laid {
+    ghost use Rattle.std.specs.Prelude.{◌≡◌};
+    ghost use Rattle.message_writer.specs.Working.Answer.{laid_answer};
 
-fn done(count: usize) -> Laid
-    ensures { result ≡ laid count }
-{
-    Laid {
-        status: 0,
-        count: count as u64,
+    ghost from_gives = { λ outcome answer. answer ≡ laid_answer outcome };
+
+    fn from(outcome: Result<usize, Refusal>) -> Laid {
+        match outcome {
+            Ok(count) => Laid {
+                status: 0,
+                count: count as u64,
+            },
+            Err(refusal) => Laid {
+                status: refusal.into(),
+                count: 0,
+            },
+        }
     }
 }
 
@@ -34,42 +42,11 @@ fn done(count: usize) -> Laid
 fn is_no_type(kind: u8) -> bool
     ensures { result ≡ is_no_type kind }
 {
-    kind == 0 || kind == 81
-}
-
-// How many bytes of a message of this total length have no room from a start on. The length is compared with what is left: added to a
-// start it could wrap.
-fn missing(datagram: &[u8], start: usize, total: usize) -> usize
-    requires { start ≤ length datagram.now }
-    ensures { result ≡ total - (length datagram.now - start) }
-{
-    let left = datagram.len() - start;
-    if total > left {
-        return total - left;
-    }
-    0
-}
-
-// A message's type and total length.
-fn front_of(kind: u8, total: u32) -> [u8; 3]
-    ensures { result ≡ kind ∷ high_byte_first 2 total }
-{
-    [kind, (total / 256 % 256) as u8, (total % 256) as u8]
-}
-
-// A source as bytes.
-fn source_of(source: u32) -> [u8; 4]
-    ensures { result ≡ high_byte_first 4 source }
-{
-    [
-        (source / 16777216 % 256) as u8,
-        (source / 65536 % 256) as u8,
-        (source / 256 % 256) as u8,
-        (source % 256) as u8,
-    ]
+    matches!(kind, 0 | 81)
 }
 
 // Lays three pieces from a place on, one behind the other.
+#[tactic(auto, using(crate::proofs::Bytes::three_laid))]
 fn lay_three(first: &[u8], second: &[u8], third: &[u8], out: &mut [u8], at: usize)
     requires { at + (length first.now + length second.now + length third.now) ≤ length out.old }
     ensures { out.new ≡ over at (first.now ++ second.now ++ third.now) out.old }
@@ -79,40 +56,45 @@ fn lay_three(first: &[u8], second: &[u8], third: &[u8], out: &mut [u8], at: usiz
     bits::lay_bytes(third, out, at + first.len() + second.len());
 }
 
-// Lays a message from a start on. All refusals come before the first byte.
-pub fn write_message(datagram: &mut [u8], start: usize, kind: u8, source: u32, body: &[u8]) -> Laid
-    ensures { WroteAt start (write_message start kind source body.now (length datagram.old)) datagram.old datagram.new result }
+// Lays a message from a start on: its type, its total length and its source, high byte first, and its body. All refusals come before the
+// first byte; the length is compared with what is left, where no sum can wrap.
+#[tactic(auto, using(crate::proofs::Ways::write_laws))]
+pub fn write_message(
+    datagram: &mut [u8],
+    start: usize,
+    kind: u8,
+    source: u32,
+    body: &[u8],
+) -> Result<usize, Refusal>
+    ensures { WroteAt start (write_message start kind source body.now (length datagram.old)) datagram.old datagram.new (laid_answer result) }
 {
     if start > datagram.len() {
-        return refuse(8);
+        return Err(Refusal::PastEnd);
     }
     if is_no_type(kind) {
-        return refuse(13);
+        return Err(Refusal::NoType);
     }
     if body.len() > 65528 {
-        return refuse(14);
+        return Err(Refusal::LongBody);
     }
     let total = 7 + body.len();
-    if missing(datagram, start, total) > 0 {
-        return refuse(3);
+    if total > datagram.len() - start {
+        return Err(Refusal::NoRoom);
     }
-    let front = front_of(kind, total as u32);
-    let from = source_of(source);
-    lay_three(&front, &from, body, datagram, start);
-    done(total)
+    let [high, low] = (total as u16).to_be_bytes();
+    let front = [kind, high, low];
+    lay_three(&front, &source.to_be_bytes(), body, datagram, start);
+    Ok(total)
 }
 
 // Lays zeros from a start to the end.
-pub fn zero_fill(datagram: &mut [u8], start: usize) -> Laid
-    ensures { WroteAt start (zero_fill start (length datagram.old)) datagram.old datagram.new result }
+pub fn zero_fill(datagram: &mut [u8], start: usize) -> Result<usize, Refusal>
+    ensures { WroteAt start (zero_fill start (length datagram.old)) datagram.old datagram.new (laid_answer result) }
 {
-    let end = datagram.len();
-    if start > end {
-        return refuse(8);
+    if start > datagram.len() {
+        return Err(Refusal::PastEnd);
     }
-    let count = end - start;
-    for i in 0..count {
-        datagram[start + i] = 0;
-    }
-    done(count)
+    let rest = &mut datagram[start..];
+    rest.fill(0);
+    Ok(rest.len())
 }

@@ -10,6 +10,7 @@ use lib.ListN.{length, get_or, drop, drop_of_length-le}
 use lib.Seq.{drop-cons}
 use borrow.Author.Tests.{lt-ltb, le-ltb, ne_eqb}
 use Rattle.answers.specs.Numbers.{past_end, small_length, broken_fill, few_left, message_past_end}
+use Rattle.lists.proofs.Parts.{part_rest}
 use Rattle.messages.specs.declared.Step.{Step}
 use Rattle.messages.specs.Fill.{only_zeros}
 use Rattle.messages.specs.Step.{refused, finished, message, lie, is_lie, declared_length, zeros_at, message_at, step_at, step_from, step_message}
@@ -60,6 +61,9 @@ module _ (position : ℕ) (left : List ℕ) where
   unfolding message_at
   message-whole h l = simp (le-ltb (length left) 3 (omega arith), le-ltb (declared_length left) 7 h, le-ltb (length left) (declared_length left) l)
 
+-- the four together
+pub ruleset message_laws = (message-few, message_small, message-long, message-whole)
+
 -- ---- a step from a place: at the end, at a byte 81, at a byte 0, at another
 module _ (datagram : List ℕ) (place : ℕ) where
   pub step_end : length datagram ≤ place → step_from datagram place ≡ finished
@@ -79,6 +83,9 @@ module _ (datagram : List ℕ) (place : ℕ) where
     unfolding step_at
     step-begins p z = rw (drop-cons datagram place 0 h, ne_eqb _ 81 p, ne_eqb _ 0 z)
 
+-- but for the byte 81, with what is left as a part of the datagram
+pub ruleset place_laws = (step_end, step-zeros, step-begins, part_rest)
+
 -- ---- a step from a position
 pub step_past : (datagram : List ℕ) (position : ℕ) → length datagram < position → step_message datagram position ≡ refused past_end
 unfolding step_message
@@ -87,3 +94,6 @@ step_past datagram position h = simp (lt-ltb (length datagram) position h)
 pub step-within : (datagram : List ℕ) (position : ℕ) → position ≤ length datagram → step_message datagram position ≡ step_from datagram position
 unfolding step_message
 step-within datagram position h = simp (le-ltb (length datagram) position h)
+
+-- both together
+pub ruleset position_laws = (step_past, step-within)

@@ -1,2 +1,3 @@
+pub mod Answer
 pub mod Stepping
 pub mod Turn

@@ -1,12 +1,33 @@
-// Stepping through the messages of a datagram (document 01, "Messages in a datagram"; document 02, K1 and K3; M.2092-1, Annex 4, 4.9).
+// What a step through the messages of a datagram finds (document 01, "Messages in a datagram"; document 02, K1 and K3), and what C gets of it.
 #![tactic(auto)]
 
-ghost use Rattle.std.specs.Prelude.{◌≡◌, ◌-◌, ◌<◌, ◌≤◌, length, get_or};
-ghost use Rattle.messages.specs.Fill.{only_zeros};
-ghost use Rattle.messages.specs.Step.{refused, finished, message, lie, declared_length, zeros_at, message_at, step_message};
-ghost use Rattle.messages.specs.Working.Turn.{Says};
+mod steps;
 
-// What a step answers: where a message starts, also one that lies, its length, and how many bytes are missing of one that runs past the
+ghost use Rattle.std.specs.Prelude.{◌≡◌};
+ghost use Rattle.answers.specs.Working.Refusals.{number_of};
+ghost use Rattle.messages.specs.Step.{lie};
+
+use answers::Refusal;
+pub use steps::step_message;
+
+// A message: where it starts, and its length.
+#[derive(Clone, Copy)]
+pub struct Message {
+    pub start: usize,
+    pub length: usize,
+}
+
+// Why no message can be read: a message that lies is told of with its place, and one that runs past the end with the bytes that are missing.
+#[derive(Clone, Copy, Debug, PartialEq, Eq)]
+pub enum Fault {
+    PastEnd,
+    BrokenFill,
+    FewLeft { start: usize },
+    SmallLength { start: usize },
+    MessagePastEnd { start: usize, missing: usize },
+}
+
+// What C gets of a step: where a message starts, also one that lies, its length, and how many bytes are missing of one that runs past the
 // end.
 #[repr(C)]
 #[derive(Clone, Copy)]
@@ -17,162 +38,58 @@ pub struct Step {
     pub missing: u64,
 }
 
-// What a step of a bounded number of turns comes to: its answer, or the place behind the fill that it passed over.
-#[derive(Clone, Copy)]
-enum Turn {
-    Answer(Step),
-    Onward(usize),
-}
-
-// How deep the step and the fill call each other before the loop goes on: a long run of fill must not overrun the stack.
-const TURNS: usize = 16;
-
-fn message(start: usize, total: usize) -> Step
-    ensures { result ≡ message start total }
+// A refusal, with the place of a lie and the bytes that are missing.
+fn refuse(refusal: Refusal, start: usize, missing: usize) -> Step
+    ensures { result ≡ lie (number_of refusal) start missing }
 {
     Step {
-        status: 0,
+        status: refusal.into(),
         start: start as u64,
-        length: total as u64,
-        missing: 0,
-    }
-}
-
-// No message follows.
-fn finished() -> Step
-    ensures { result ≡ finished }
-{
-    message(0, 0)
-}
-
-// A message that lies is refused with its place and with the bytes that are missing.
-fn lie(status: u32, place: usize, missing: usize) -> Step
-    ensures { result ≡ lie status place missing }
-{
-    Step {
-        status,
-        start: place as u64,
         length: 0,
         missing: missing as u64,
     }
 }
 
-// All else is refused with zeros.
-fn refuse(status: u32) -> Step
-    ensures { result ≡ refused status }
-{
-    lie(status, 0, 0)
-}
+impl From<Fault> for Step {
+    ghost use Rattle.std.specs.Prelude.{◌≡◌, Err};
+    ghost use Rattle.messages.specs.Working.Answer.{step_answer};
 
-// Whether all of these bytes are 0.
-fn only_zeros(bytes: &[u8]) -> bool
-    ensures { result ≡ only_zeros bytes.now }
-{
-    for i in 0..bytes.len() {
-        let byte = bytes[i];
-        if byte != 0 {
-            return false;
+    ghost from_gives = { λ fault answer. answer ≡ step_answer (Err fault) };
+
+    fn from(fault: Fault) -> Step {
+        match fault {
+            Fault::PastEnd => refuse(Refusal::PastEnd, 0, 0),
+            Fault::BrokenFill => refuse(Refusal::BrokenFill, 0, 0),
+            Fault::FewLeft { start } => refuse(Refusal::FewLeft, start, 0),
+            Fault::SmallLength { start } => refuse(Refusal::SmallLength, start, 0),
+            Fault::MessagePastEnd { start, missing } => {
+                refuse(Refusal::MessagePastEnd, start, missing)
+            }
         }
     }
-    true
 }
 
-// Where the zero fill begins.
-fn zeros_at(left: &[u8]) -> Step
-    ensures { result ≡ zeros_at left.now }
-{
-    if only_zeros(left) {
-        return finished();
-    }
-    refuse(10)
-}
+impl From<Result<Option<Message>, Fault>> for Step {
+    ghost use Rattle.std.specs.Prelude.{◌≡◌};
+    ghost use Rattle.messages.specs.Working.Answer.{step_answer};
 
-// The total length that a message declares.
-fn declared_length(left: &[u8]) -> usize
-    requires { 3 ≤ length left.now }
-    ensures { result ≡ declared_length left.now }
-{
-    let high = left[1] as usize;
-    let low = left[2] as usize;
-    high * 256 + low
-}
+    ghost from_gives = { λ outcome answer. answer ≡ step_answer outcome };
 
-// How many bytes of a message of this total length lie past the end. The length is compared with what is left: added to a position it
-// could wrap.
-fn missing(total: usize, left: &[u8]) -> usize
-    ensures { result ≡ total - length left.now }
-{
-    if total > left.len() {
-        return total - left.len();
-    }
-    0
-}
-
-// Where a message begins. Its lies are told in the order 11, 9, 12.
-fn message_at(position: usize, left: &[u8]) -> Step
-    ensures { result ≡ message_at position left.now }
-{
-    if left.len() < 3 {
-        return lie(11, position, 0);
-    }
-    let total = declared_length(left);
-    let lacking = missing(total, left);
-    if total < 7 {
-        return lie(9, position, 0);
-    }
-    if lacking > 0 {
-        return lie(12, position, lacking);
-    }
-    message(position, total)
-}
-
-// A step from a place. A byte 81 is handed to the fill, a byte 0 begins the zero fill, any other a message.
-#[cycle(fill_at_step_at)]
-fn step_at(datagram: &[u8], place: usize, turns: usize) -> Turn
-    requires { turns ≤ 16 }
-    ensures { Says datagram.now place result }
-{
-    if place >= datagram.len() {
-        return Turn::Answer(finished());
-    }
-    let byte = datagram[place];
-    if byte == 81 {
-        return fill_at(datagram, place, turns);
-    }
-    let left = &datagram[place..];
-    if byte == 0 {
-        return Turn::Answer(zeros_at(left));
-    }
-    Turn::Answer(message_at(place, left))
-}
-
-// Fill is passed over: the step again at the next byte, unless the turns are used up.
-#[cycle(fill_at_step_at)]
-fn fill_at(datagram: &[u8], place: usize, turns: usize) -> Turn
-    requires place_in_bounds { place < length datagram.now }
-    requires place_value { get_or datagram.now place 0 ≡ 81 }
-    requires turns_bound { turns ≤ 16 }
-    ensures { Says datagram.now place result }
-{
-    let next = place + 1;
-    if turns == 0 {
-        return Turn::Onward(next);
-    }
-    step_at(datagram, next, turns - 1)
-}
-
-// The first message from a position of a datagram on, or that no more follow, or why none can be read there.
-pub fn step_message(datagram: &[u8], position: usize) -> Step
-    ensures { result ≡ step_message datagram.now position }
-{
-    if position > datagram.len() {
-        return refuse(8);
-    }
-    let mut place = position;
-    loop {
-        match step_at(datagram, place, TURNS) {
-            Turn::Answer(step) => return step,
-            Turn::Onward(next) => place = next,
+    fn from(outcome: Result<Option<Message>, Fault>) -> Step {
+        match outcome {
+            Ok(Some(message)) => Step {
+                status: 0,
+                start: message.start as u64,
+                length: message.length as u64,
+                missing: 0,
+            },
+            Ok(None) => Step {
+                status: 0,
+                start: 0,
+                length: 0,
+                missing: 0,
+            },
+            Err(fault) => fault.into(),
         }
     }
 }

@@ -65,3 +65,5 @@ heard-long count bits e h room =
     ap (λ (burst : List ℕ). read_slot burst room) (too_long count bits e h)
     ∙ head-alone whole (simp length-append (omega arith)) room
     ∙ ap (λ (burst : List ℕ). read_slot burst room) (take-append-le head_length bits (0 ∷ []) (omega (arith, e)))
+
+pub ruleset hearing = (short, heard-long)

@@ -10,6 +10,7 @@ use borrow.Author.Tests.{ltb-true, ltb-false}
 use lib.ListN.{length, take, drop, length-append, length-replicate, drop_of_length-le}
 use lib.Seq.{take_all, take_at, take-append-le, take-append-add, length-take-le, take-take}
 use Rattle.lists.specs.Over.{over}
+use Rattle.lists.specs.Working.Cleared.{cleared}
 use Rattle.lists.proofs.Over.{over-length}
 use Rattle.slots.specs.Burst.{head_length, head_part}
 use Rattle.slots.specs.Calls.{read_slot}
@@ -23,6 +24,11 @@ pub record Holds (came : List ℕ) (now : State) : Type 0 where
   pub number : now.count ≡ min (length came) stop
   pub front : take longest came ≡ take now.count now.bits
   pub long : length now.bits ≡ longest
+
+-- what is cleared holds no byte of a burst
+pub cleared_blank : cleared 0 longest ≡ blank
+unfolding cleared blank
+cleared_blank = refl
 
 pub fresh_holds : Holds [] fresh
 unfolding blank

@@ -1,38 +1,30 @@
 -- The line before the newline, character by character.
 -- Assumes nothing.
-use mathlib.Core.Path.{◌≡◌, refl, ap}
-use mathlib.Core.Bool.{Bool, true, false, cond}
+use mathlib.Core.Path.{◌≡◌, refl}
+use mathlib.Core.Bool.{Bool, not}
 use mathlib.Core.List.{List, [], ◌∷◌}
-use Prim.Native.Nat.{ℕ, ◌+◌, ◌<◌, ◌≤◌}
-use native.Mathlib.Numerals.{add-one}
+use Prim.Native.Nat.{ℕ, ◌≤◌}
 use native.Mathlib.Omega.{arith}
 use lib.Dec.{eqb}
-use lib.ListN.{length, get_or, take, drop, length-take, drop_of_length-le}
-use lib.Seq.{drop-cons}
-use borrow.Author.Tests.{eq-eqb, ne_eqb}
+use lib.ListN.{length, take}
+use Rattle.std.specs.List.{take_while}
+use Rattle.std.proofs.lemmas.Bool.Decides.{nat_tests}
+use Rattle.std.proofs.lemmas.List.Folds.{length-prefix_len}
+use Rattle.std.proofs.lemmas.List.Sums.{take_while-cons, prefix_len-le-length}
 use Rattle.printer_text.specs.Line.{line_of}
 
-pub line-ends : (input : List ℕ) (i : ℕ) → i < length input → get_or input i 0 ≡ 10 → line_of (drop i input) ≡ []
-unfolding line_of
-line-ends input i h e = rw (drop-cons input i 0 h, eq-eqb (get_or input i 0) 10 e)
+-- only the newline ends it
+abbrev pub in_line : ℕ → Bool
+in_line c = not (eqb c 10)
 
-pub line-goes-on : (input : List ℕ) (i : ℕ) → i < length input → (get_or input i 0 ≡ 10 → ⊥) → line_of (drop i input) ≡ get_or input i 0 ∷ line_of (drop (i + 1) input)
+pub line-is : (input : List ℕ) → line_of input ≡ take_while in_line input
 unfolding line_of
-line-goes-on input i h e = rw (drop-cons input i 0 h, ne_eqb (get_or input i 0) 10 e, add-one)
-
-pub line-none : (input : List ℕ) (i : ℕ) → length input ≤ i → line_of (drop i input) ≡ []
-unfolding line_of
-line-none input i h = rw (drop_of_length-le input h)
+line-is [] = refl
+line-is (c ∷ input) = grind (arith, nat_tests, take_while-cons in_line c input, line-is input)
 
 -- the line is the front of the input
 pub line-front : (input : List ℕ) → take (length (line_of input)) input ≡ line_of input
-unfolding line_of
-line-front [] = refl
-line-front (c ∷ input) = picked (eqb c 10) (line-front input)
-  where
-    picked : (b : Bool) → take (length (line_of input)) input ≡ line_of input → take (length (cond b [] (c ∷ line_of input))) (c ∷ input) ≡ cond b [] (c ∷ line_of input)
-    picked true e = refl
-    picked false e = ap (λ (l : List ℕ). c ∷ l) e
+line-front input = simp (line-is, length-prefix_len)
 
 pub line-within : (input : List ℕ) → length (line_of input) ≤ length input
-line-within input = omega (arith, ap length (line-front input), length-take (length (line_of input)) input)
+line-within input = simp (line-is, length-prefix_len) (prefix_len-le-length in_line input)

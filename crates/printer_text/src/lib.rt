@@ -3,12 +3,15 @@
 
 ghost use Rattle.std.specs.Prelude.{◌≡◌, map, ◌+◌, ◌<◌, length};
 ghost use Rattle.words.specs.Calls.{read_word, found, refused};
+ghost use Rattle.words.specs.Working.Answer.{word_answer};
 ghost use Rattle.printer_text.specs.Line.{bit_of, line_of};
 ghost use Rattle.printer_text.specs.Lines.{padded, lines_of, text_of};
 
-use words::Word;
+use answers::Refusal;
+use words::Found;
 
-// The printed bytes stand at the start, and zeros behind them.
+// The printed bytes stand at the start, and zeros behind them. An array with a count: there is no heap, and the claim `Printed` and the
+// definition `padded` speak of these two. The lines are laid by hand, since no contract says what `write!` writes.
 #[derive(Clone, Copy)]
 pub struct Text {
     pub bytes: [u8; 32],
@@ -19,15 +22,11 @@ pub struct Text {
 pub fn line_end(input: &[u8]) -> usize
     ensures { result ≡ length (line_of input.now) }
 {
-    for i in 0..input.len() {
-        if input[i] == b'\n' {
-            return i;
-        }
-    }
-    input.len()
+    input.iter().take_while(|&&byte| byte != b'\n').count()
 }
 
-// The bit that a character stands for; 2, which is no bit, for any other than 0 and 1.
+// The bit that a character stands for; 2, which is no bit and is refused by the reader, for any other than 0 and 1, as the definition has it.
+#[tactic(auto, unfolding(crate::specs::Line::bit_of))]
 fn bit_of(character: u8) -> u8
     ensures { result ≡ bit_of character }
 {
@@ -39,17 +38,13 @@ fn bit_of(character: u8) -> u8
 }
 
 // Reads the characters of a line as a link word. A line of another length than 32 is refused as it stands.
-fn read_characters(line: &[u8]) -> Word
-    ensures { result ≡ read_word (map bit_of line.now) }
+fn read_characters(line: &[u8]) -> Result<Found, Refusal>
+    ensures { word_answer result ≡ read_word (map bit_of line.now) }
 {
-    if line.len() != 32 {
+    let Ok(characters) = <[u8; 32]>::try_from(line) else {
         return words::read(line);
-    }
-    let mut row = [0; 32];
-    for i in 0..32 {
-        row[i] = bit_of(line[i]);
-    }
-    words::read(&row)
+    };
+    words::read(&characters.map(bit_of))
 }
 
 // A decimal digit as a character.
@@ -57,7 +52,7 @@ fn digit(n: u32) -> u8
     requires { n < 10 }
     ensures { result ≡ 48 + n }
 {
-    48 + n as u8
+    b'0' + n as u8
 }
 
 // The three lines of a refusal.
@@ -98,10 +93,8 @@ fn answer_lines(number: u32, wrong: u32) -> Text
 pub fn text_of(input: &[u8]) -> Text
     ensures { result ≡ text_of input.now }
 {
-    let end = line_end(input);
-    let word = read_characters(&input[..end]);
-    if word.status == 0 {
-        return answer_lines(word.number, word.wrong);
+    match read_characters(&input[..line_end(input)]) {
+        Ok(found) => answer_lines(found.number, found.wrong),
+        Err(refusal) => refusal_lines(refusal.into()),
     }
-    refusal_lines(word.status)
 }

@@ -1,66 +1,59 @@
 // The k bits of what came: unscrambled, and then the X of every clock.
 #![tactic(auto)]
 
-ghost use Rattle.std.specs.Prelude.{◌≡◌, true, map, T, length};
-ghost use Rattle.bits.specs.Bits.{is_one, byte, all_bits};
+ghost use Rattle.std.specs.Prelude.{◌≡◌, map, ℕ, ◌<◌, ◌≤◌, length, slice_index, slice_index_or, []};
+ghost use Rattle.bits.specs.Bits.{is_one};
 ghost use Rattle.distance.specs.Working.Coding.{x_bits};
-ghost use Rattle.links.specs.Working.Good.{good_row};
 ghost use Rattle.links.specs.Patterns.{total};
 ghost use Rattle.links.specs.Sizes.{image_length};
 ghost use Rattle.turbo.specs.Working.Parity.{counts_of};
 ghost use Rattle.blocks.specs.Reading.{received};
-ghost use Rattle.blocks.specs.Working.Came.{Came};
 
-use links::Row;
+use blocks::Came;
+use links::Link;
+use scrambler::Scrambler;
 
 // How many bits the flags of a clock pass on.
-fn total(flags: [u8; 6]) -> usize
-    ensures { result ≡ total flags }
+fn total(flags: &[u8; 6]) -> usize
+    ensures { result ≡ total flags.now }
 {
-    let mut sum: usize = 0;
-    for i in 0..6 {
-        sum += flags[i] as usize;
-    }
-    sum
+    flags.iter().map(|&flag| usize::from(flag)).sum()
 }
 
 // The same for each clock of a pattern.
-fn totals(pattern: [[u8; 6]; 10]) -> [usize; 10]
-    ensures { result ≡ map total pattern }
+fn totals(pattern: &[[u8; 6]]) -> [usize; 10]
+    requires { length pattern.now ≤ 10 }
+    ensures { (c : ℕ) → c < length pattern.now → slice_index result c ≡ total (slice_index_or pattern.now c []) }
 {
-    let mut sums = [0usize; 10];
-    for c in 0..10 {
-        sums[c] = total(pattern[c]);
+    let mut totals = [0; 10];
+    for (c, flags) in pattern.iter().enumerate() {
+        totals[c] = total(flags);
     }
-    sums
+    totals
 }
 
 // Takes the X of every clock out of coded bits: each stands behind what the clocks before it pass on.
-fn take_x(row: Row, coded: &[u8], u: &mut [u8])
-    requires { T (good_row row) × (length u.old ≡ row.k) × (length coded.now ≡ image_length row) × (all_bits coded.now ≡ true) }
-    ensures { u.new ≡ map byte (x_bits (counts_of row) (map is_one coded.now)) }
+fn take_x(link: Link, coded: &[u8], u: &mut [bool])
+    requires { (length u.old ≡ link.row.k) × (length coded.now ≡ image_length link.row) }
+    ensures { u.new ≡ x_bits (counts_of link.row) (map is_one coded.now) }
 {
-    let name = row.pattern;
-    let sums = totals(links::pattern(name));
-    let clocks = links::clocks(name);
-    let mut at: usize = 0;
-    let mut clock: usize = 0;
-    for s in 0..u.len() {
-        u[s] = coded[at];
-        at += sums[clock];
-        clock += 1;
-        if clock == clocks {
-            clock = 0;
-        }
+    let flags = link.flags();
+    let totals = totals(flags.clocks());
+    let mut at = 0;
+    let mut clock = 0;
+    for bit in u {
+        *bit = coded[at] == 1;
+        at += totals[clock];
+        clock = flags.next_clock(clock);
     }
 }
 
 // The k bits of what came; plain is scratch for all of it unscrambled.
-pub fn receive(row: Row, came: &[u8], plain: &mut [u8], u: &mut [u8])
-    requires { Came row came.now × (length u.old ≡ row.k) × (length plain.old ≡ image_length row) }
-    ensures { u.new ≡ map byte (received row (map is_one came.now)) }
+pub fn receive(came: Came, plain: &mut [u8], u: &mut [bool])
+    requires { (length u.old ≡ came.link.row.k) × (length plain.old ≡ image_length came.link.row) }
+    ensures { u.new ≡ received came.entry.link.row (map is_one came.entry.bits.now) }
 {
-    bits::lay_bytes(came, plain, 0);
-    scrambler::scramble(scrambler::load(), came.len(), plain);
-    take_x(row, plain, u);
+    plain.copy_from_slice(came.bits);
+    Scrambler::load().scramble(plain);
+    take_x(came.link, plain, u);
 }

@@ -23,7 +23,7 @@ pub ahead_none : (r : ℕ) → ahead r 0 ≡ r
 unfolding ahead
 ahead_none r = omega arith
 
-pub ahead_eight : (r : ℕ) → ahead r 8 ≡ r / 256 + sums r % 256 * 128
+pub ahead_eight : (r : ℕ) → ahead r 8 ≡ r / 256 + sums r % 256 * 128 % 65536
 unfolding ahead
 ahead_eight r = omega arith
 

@@ -7,6 +7,8 @@ use Prim.Native.Nat.{ℕ, ◌<◌, ◌≤◌}
 use native.Mathlib.Omega.{arith}
 use lib.ListN.{length}
 use borrow.Author.Tests.{lt-ltb, le-ltb, le-leb, lt-leb, eq-eqb, ne_eqb}
+use Rattle.answers.specs.declared.Refusal.{Refusal}
+use Rattle.answers.specs.Working.Refusals.{number_of}
 use Rattle.answers.specs.Numbers.{done, not_offered, wrong_length, no_bit, no_training, no_word}
 use Rattle.bits.specs.Bits.{all_bits}
 use Rattle.blocks.specs.Calls.{read_block}
@@ -15,6 +17,10 @@ use Rattle.words.specs.Calls.{read_word}
 use Rattle.slots.specs.Burst.{head_length, head_part, word_part, block_part, is_slot_link}
 use Rattle.slots.specs.Head.{refused_head, found_head, wrong_in_training, named_head, read_head}
 use Rattle.slots.specs.Calls.{refused, joined, read_slot}
+
+-- no refusal has the number of what is done
+pub refusal_number : (refusal : Refusal) → 0 < number_of refusal
+refusal_number refusal = grind arith
 
 -- ---- the word of the head
 module _ (word : Word) (wrong : ℕ) where

@@ -1,7 +1,5 @@
 pub mod Answered
 pub mod Calls
-pub mod HeadLaid
-pub mod Lent
 pub mod Links
 pub mod Parts
 pub mod Reading

@@ -3,15 +3,13 @@
 use mathlib.Core.Path.{◌≡◌, refl, sym}
 use mathlib.Core.Bool.{Bool, true, false, true≢false, ◌||◌}
 use Prim.Native.Nat.{ℕ, ◌<◌, ◌≤◌}
-use lib.Dec.{eqb, ltb}
-use lib.ListN.{length}
+use lib.Dec.{T, eqb, ltb}
 use borrow.Author.Tests.{eqb-true, ltb-true}
-use Rattle.links.specs.Working.Good.{longest_image}
-use Rattle.links.specs.Rows.{rows, place_in, place, offered, row_of}
+use Rattle.links.specs.declared.Row.{Row}
+use Rattle.links.specs.Rows.{rows, place_in, offered}
 use Rattle.links.specs.Sizes.{image_length}
+use Rattle.links.specs.Working.Good.{longest_image, good_row}
 use Rattle.links.proofs.Facts.{sizes}
-use Rattle.links.proofs.Good.{good}
-use Rattle.links.proofs.Search.{offered-place}
 use Rattle.slots.specs.Burst.{is_slot_link}
 
 -- a test that holds of each of them
@@ -33,9 +31,6 @@ slot-offered link h = each offered refl refl refl link h
 pub slot-has-word : (link : ℕ) → is_slot_link link ≡ true → link < 64
 slot-has-word link h = ltb-true link 64 (each (λ n. ltb n 64) refl refl refl link h)
 
--- the place that was found for one is in the table, and its images are not too long
-pub slot-inside : (link : ℕ) → is_slot_link link ≡ true → {at : ℕ} → at ≡ place link → at < length rows
-slot-inside link h found = rw found (offered-place link (slot-offered link h))
-
-pub slot-image : (link : ℕ) → is_slot_link link ≡ true → image_length (row_of link) ≤ longest_image
-slot-image link h = (sizes (row_of link) (good link (slot-offered link h))).image
+-- the image of a good row is not too long
+pub image_small : (row : Row) → T (good_row row) → image_length row ≤ longest_image
+image_small row good = (sizes row good).image

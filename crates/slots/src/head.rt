@@ -1,14 +1,26 @@
 // The head of a slot burst: the training and the link word, 86 bits.
-ghost use Rattle.std.specs.Prelude.{◌≡◌, true, map, ◌<◌, ◌≤◌, length};
+ghost use Rattle.std.specs.Prelude.{◌≡◌, map, ◌<◌, ◌≤◌, length};
 ghost use Rattle.lists.specs.Over.{over};
 ghost use Rattle.bits.specs.Bits.{byte};
 ghost use Rattle.slots.specs.Burst.{is_slot_link, head_of};
-ghost use Rattle.slots.specs.Head.{refused_head, found_head, read_head};
+ghost use Rattle.slots.specs.Head.{read_head};
+ghost use Rattle.slots.specs.Working.Answer.{head_answer};
 
 use crate::training;
-use words::Word;
+use answers::Refusal;
+use links::Link;
+use words::Found;
 
-// What reading the head answers: its link, the wrong bits of its link word and of its training, and how long the rest is to be.
+// A head that was read: its link word, in how many bits its training differs, and how long the rest is to be, for whoever reads the head first.
+#[derive(Clone, Copy)]
+pub struct FoundHead {
+    pub word: Found,
+    pub training_wrong: u32,
+    pub rest: u32,
+}
+
+// What the definition `read_head` says of a head, refusals included: its link, the wrong bits of its link word and of its training, and how long
+// the rest is to be.
 #[repr(C)]
 #[derive(Clone, Copy)]
 pub struct Head {
@@ -20,10 +32,11 @@ pub struct Head {
 }
 
 // Whether a link has slot bursts.
+#[tactic(auto, unfolding(crate::specs::Burst::is_slot_link))]
 pub fn is_slot_link(link: u32) -> bool
     ensures { result ≡ is_slot_link link }
 {
-    link == 5 || link == 6 || link == 7
+    matches!(link, 5..=7)
 }
 
 // Lays the head of a link's slot bursts at the buffer's start.
@@ -32,58 +45,32 @@ pub fn lay(link: u32, out: &mut [u8])
     ensures { out.new ≡ over 0 (map byte (head_of link)) out.old }
 {
     training::lay(out);
-    bits::lay_row(words::word_of(link), out, 54);
-}
-
-// Reading refuses with a number.
-fn refuse(status: u32) -> Head
-    ensures { result ≡ refused_head status }
-{
-    Head {
-        status,
-        link: 0,
-        word_wrong: 0,
-        training_wrong: 0,
-        rest: 0,
-    }
-}
-
-// Reading finds the word of a slot link, and so many wrong bits in the training. The rest is to be as long as the link's images.
-fn find(word: Word, wrong: u32) -> Head
-    requires { is_slot_link word.number ≡ true }
-    ensures { result ≡ found_head word.number word.wrong wrong }
-{
-    let rest = links::image_length_at(links::place_of(word.number)) as u32;
-    Head {
-        status: 0,
-        link: word.number,
-        word_wrong: word.wrong,
-        training_wrong: wrong,
-        rest,
-    }
+    bits::lay_bits(words::word_of(link), &mut out[54..86]);
 }
 
 // Reads the head of a slot burst. What stands behind it is not looked at.
-pub fn read(burst: &[u8]) -> Head
-    ensures { result ≡ read_head burst.now }
+#[tactic(auto, using(crate::proofs::Reading::head_reading), unfolding(crate::specs::Head::read_head, crate::specs::Head::named_head))]
+pub fn read(burst: &[u8]) -> Result<FoundHead, Refusal>
+    ensures { head_answer result ≡ read_head burst.now }
 {
     if burst.len() < 86 {
-        return refuse(2);
+        return Err(Refusal::WrongLength);
     }
     if !bits::all_bits(&burst[..86]) {
-        return refuse(4);
+        return Err(Refusal::NoBit);
     }
-    let wrong = training::wrong(&burst[..54]);
-    let word = words::read(&burst[54..86]);
-    let named = word.status == 0;
-    if wrong > 8 {
-        return refuse(5);
+    let training_wrong = training::wrong(&burst[..54]);
+    if training_wrong > 8 {
+        return Err(Refusal::NoTraining);
     }
-    if !named {
-        return refuse(6);
-    }
+    let word = words::read(&burst[54..86])?;
     if !is_slot_link(word.number) {
-        return refuse(1);
+        return Err(Refusal::NotOffered);
     }
-    find(word, wrong)
+    let link = Link::find(word.number).ok_or(Refusal::NotOffered)?;
+    Ok(FoundHead {
+        word,
+        training_wrong,
+        rest: link.size as u32,
+    })
 }

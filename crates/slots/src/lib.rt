@@ -6,10 +6,19 @@ mod reader;
 mod training;
 mod writer;
 
+use answers::Refusal;
+pub use head::FoundHead;
 pub use reader::read;
 pub use writer::write;
 
-// What reading a slot burst answers: what reading its block does, its link, and the wrong bits of the link word and of the training.
+// A slot burst that was read: its head, and the datagram of its block.
+#[derive(Clone, Copy)]
+pub struct Found {
+    pub head: FoundHead,
+    pub block: blocks::Found,
+}
+
+// What C gets of reading a slot burst: what reading its block does, its link, and the wrong bits of the link word and of the training.
 #[repr(C)]
 #[derive(Clone, Copy)]
 pub struct Slot {
@@ -19,4 +28,32 @@ pub struct Slot {
     pub link: u32,
     pub word_wrong: u32,
     pub training_wrong: u32,
+}
+
+impl From<Result<Found, Refusal>> for Slot {
+    ghost use Rattle.std.specs.Prelude.{◌≡◌};
+    ghost use Rattle.slots.specs.Working.Answer.{slot_answer};
+
+    ghost from_gives = { λ outcome answer. answer ≡ slot_answer outcome };
+
+    fn from(outcome: Result<Found, Refusal>) -> Slot {
+        match outcome {
+            Ok(found) => Slot {
+                status: 0,
+                count: found.block.count,
+                wrong: found.block.wrong,
+                link: found.head.word.number,
+                word_wrong: found.head.word.wrong,
+                training_wrong: found.head.training_wrong,
+            },
+            Err(refusal) => Slot {
+                status: refusal.into(),
+                count: 0,
+                wrong: 0,
+                link: 0,
+                word_wrong: 0,
+                training_wrong: 0,
+            },
+        }
+    }
 }

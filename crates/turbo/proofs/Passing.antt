@@ -3,13 +3,12 @@
 use mathlib.Core.Path.{◌≡◌, refl, sym, ap, ap₂, ◌∙◌}
 use mathlib.Core.Bool.{Bool}
 use mathlib.Core.List.{List, [], ◌∷◌, ◌++◌, map, map-append, append_assoc}
-use Prim.Native.Nat.{ℕ, zero, suc, ◌+◌, ◌%◌, ◌≤◌, ◌<◌}
-use native.Mathlib.Nat.{mod-lt}
+use Prim.Native.Nat.{ℕ, zero, suc, ◌+◌, ◌≤◌, ◌<◌}
 use native.Mathlib.Numerals.{add-one}
 use native.Mathlib.Omega.{arith}
 use lib.ListN.{length, get_or, take, drop, replicate, length-append, length-replicate, drop_of_length-le}
-use lib.Seq.{drop-cons, get_or-take, length-take-le}
-use Rattle.links.specs.Patterns.{flags_at, total}
+use lib.Seq.{drop-cons}
+use Rattle.links.specs.Patterns.{total}
 use Rattle.turbo.specs.Coded.{passed}
 
 -- how much passes depends on the flags only
@@ -84,9 +83,3 @@ passed_split (suc n) (flag ∷ flags) [] = sym (of_nothing (drop n flags))
 passed_split (suc n) (flag ∷ flags) (b ∷ bits) =
     ap (◌++◌ (replicate flag b)) (passed_split n flags bits)
     ∙ sym (append_assoc (replicate flag b) (passed (take n flags) (take n bits)) (passed (drop n flags) (drop n bits)))
-
--- the flags of clock s, where c is its place in the pattern
-pub flags_at_lem : (pattern : List (List ℕ)) (period c s : ℕ) → 0 < period → period ≤ length pattern → c ≡ s % period → flags_at (take period pattern) s ≡ get_or pattern c []
-unfolding flags_at
-flags_at_lem pattern period c s some enough e =
-    rw (length-take-le period pattern enough, get_or-take period pattern (s % period) [] (mod-lt s some), e)

@@ -1,3 +1,4 @@
 pub mod Calls
 pub mod Near
 pub mod Word
+pub mod Working

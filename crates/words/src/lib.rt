@@ -3,12 +3,21 @@
 
 ghost use Rattle.std.specs.Prelude.{◌≡◌, ◌<◌, length};
 ghost use Rattle.answers.specs.Outcome.{Wrote};
+ghost use Rattle.answers.specs.Working.Refusals.{written};
 ghost use Rattle.words.specs.Word.{word_of};
-ghost use Rattle.words.specs.Calls.{write_word, read_word, first_near, found, refused};
+ghost use Rattle.words.specs.Calls.{write_word, read_word, first_near};
+ghost use Rattle.words.specs.Working.Answer.{nearest, word_answer};
 
-use answers::Written;
+use answers::Refusal;
 
-// What reading a link word answers.
+// A number that was read, and in how many places its word differs from what came.
+#[derive(Clone, Copy)]
+pub struct Found {
+    pub number: u32,
+    pub wrong: u32,
+}
+
+// What C gets of reading a link word.
 #[repr(C)]
 #[derive(Clone, Copy)]
 pub struct Word {
@@ -17,25 +26,25 @@ pub struct Word {
     pub wrong: u32,
 }
 
-// Reading refuses with a number.
-fn refuse(status: u32) -> Word
-    ensures { result ≡ refused status }
-{
-    Word {
-        status,
-        number: 0,
-        wrong: 0,
-    }
-}
+impl From<Result<Found, Refusal>> for Word {
+    ghost use Rattle.std.specs.Prelude.{◌≡◌};
+    ghost use Rattle.words.specs.Working.Answer.{word_answer};
 
-// Reading finds a number, with the count of wrong places.
-fn find(number: u32, wrong: u32) -> Word
-    ensures { result ≡ found number wrong }
-{
-    Word {
-        status: 0,
-        number,
-        wrong,
+    ghost from_gives = { λ outcome answer. answer ≡ word_answer outcome };
+
+    fn from(outcome: Result<Found, Refusal>) -> Word {
+        match outcome {
+            Ok(found) => Word {
+                status: 0,
+                number: found.number,
+                wrong: found.wrong,
+            },
+            Err(refusal) => Word {
+                status: refusal.into(),
+                number: 0,
+                wrong: 0,
+            },
+        }
     }
 }
 
@@ -53,58 +62,62 @@ const GENERATOR: [u32; 6] = [
 const SCRAMBLING: u32 = 0b11000010111000101000111001001111;
 
 // The code word of a number: the rows of its set bits and the scrambling word, added bit by bit. D0 is the highest bit.
+#[tactic(auto, using(crate::proofs::Rows::row_set, crate::proofs::Rows::row_clear), unfolding(crate::specs::Word::with_rows))]
 pub fn word_of(number: u32) -> u32
     requires { number < 64 }
     ensures { result ≡ word_of number }
 {
-    let rows = GENERATOR;
     let mut word = SCRAMBLING;
-    for d in 0..6 {
-        if (number >> (5 - d)) % 2 == 1 {
-            word = word ^ rows[d];
+    let mut rest: &[u32] = &GENERATOR;
+    while let Some((row, behind)) = rest.split_first() {
+        if (number >> behind.len()) % 2 == 1 {
+            word ^= row;
         }
+        rest = behind;
     }
     word
 }
 
 // Lays the word of a number at the buffer's start, one bit to a byte.
-pub fn write(number: u32, out: &mut [u8]) -> Written
-    ensures { Wrote (write_word number (length out.old)) out.old out.new result }
+pub fn write(number: u32, out: &mut [u8]) -> Result<u32, Refusal>
+    ensures { Wrote (write_word number (length out.old)) out.old out.new (written result) }
 {
     if number > 63 {
-        return answers::refuse(1);
+        return Err(Refusal::NotOffered);
     }
     if out.len() < 32 {
-        return answers::refuse(3);
+        return Err(Refusal::NoRoom);
     }
-    bits::lay_row(word_of(number), out, 0);
-    answers::done(32)
+    bits::lay_bits(word_of(number), &mut out[..32]);
+    Ok(32)
 }
 
-// The first number whose word is within seven places of what came.
-fn first_near(came: u32) -> Word
-    ensures { result ≡ first_near came 0 64 }
+// The first number whose word is within seven places of what came. The loop goes over numbers, and what it finds is one of them.
+#[tactic(auto, using(crate::proofs::Calls::near_here, crate::proofs::Calls::near_later, crate::proofs::Calls::near_none))]
+fn nearest(came: u32) -> Option<Found>
+    ensures { nearest result ≡ first_near came 0 64 }
 {
-    for number in 0..64u32 {
+    for number in 0..64 {
         let wrong = bits::distance(word_of(number), came);
         if wrong <= 7 {
-            return find(number, wrong);
+            return Some(Found { number, wrong });
         }
     }
-    refuse(6)
+    None
 }
 
-// Reads 32 bits, one to a byte, as a link word.
-pub fn read(row: &[u8]) -> Word
-    ensures { result ≡ read_word row.now }
+// Reads 32 bits, one to a byte, as a link word. The bytes are tested before their number is known, since the compiler would keep 32 of them
+// on the stack, and the header says how much a call takes.
+#[tactic(auto, unfolding(crate::specs::Calls::read_word))]
+pub fn read(row: &[u8]) -> Result<Found, Refusal>
+    ensures { word_answer result ≡ read_word row.now }
 {
-    let other_length = row.len() != 32;
     let all = bits::all_bits(row);
-    if other_length {
-        return refuse(2);
+    if row.len() != 32 {
+        return Err(Refusal::WrongLength);
     }
     if !all {
-        return refuse(4);
+        return Err(Refusal::NoBit);
     }
-    first_near(bits::number_of(row))
+    nearest(bits::number_of(row)).ok_or(Refusal::NoWord)
 }

@@ -1,16 +1,11 @@
 -- What is answered for a block that is proposed for what came.
 use Rattle.std.specs.Prelude.{Bool, cond, List, ℕ, leb}
-use Rattle.answers.specs.Numbers.{done}
 use Rattle.answers.specs.Outcome.{Outcome}
 use Rattle.bits.specs.Row.{differences}
 use Rattle.links.specs.declared.Row.{Row}
 use Rattle.blocks.specs.declared.Block.{Block}
 use Rattle.blocks.specs.Block.{image_of, datagram_of}
 use Rattle.blocks.specs.Calls.{refused, reading}
-
--- the answer: so many bytes, and so many wrong places
-abbrev pub found : ℕ → ℕ → Block
-found count wrong = record { status = done; count = count; wrong = wrong }
 
 -- its datagram and the true count where its image is within a limit, else a refusal; the caller chooses both
 unfoldable pub within : ℕ → ℕ → Row → List Bool → List Bool → Outcome Block

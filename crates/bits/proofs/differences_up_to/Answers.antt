@@ -1,31 +1,17 @@
-use native.Mathlib.Omega.{arith}
-use borrow.Author.Rules.{rules}
-use Rattle.bits.proofs.Counted.{left-same, left_other, left-done}
+use Rattle.std.proofs.Common.{rules, tests, ◌∙◌}
+use Rattle.std.proofs.lemmas.Iterator.{YieldsList-from_slice, YieldsList-from_zip}
+use Rattle.std.proofs.lemmas.Iterator.Consumers.{YieldsList-at, YieldsList-from_filter, count_from_yields_List}
+use Rattle.bits.proofs.Counted.{apart, counted}
 use Rattle.bits.proofs.differences_up_to.Goals as goal
-use Rattle.bits.proofs.differences_up_to.Goals.{then-a-i, else-a-i}
 
-pub loop-i-init : goal.loop-i-init
-loop-i-init c = (search rules, search rules, search rules, omega arith)
-
-pub loop-i-preserved : goal.loop-i-preserved
-loop-i-preserved c =
-    let at = c.loop-i in
+pub returns : goal.returns
+returns c =
     let a = c.args.a.now in
     let b = c.args.b.now in
-    elim c.if-a-i.branch [
-      | then-a-i w ↦
-          (search rules, search rules, omega arith, omega (arith, at.invariant.3, left_other a b c.requires.0 c.requires.1 c.requires.2 at.i (omega arith) w.if-a-i.true))
-      | else-a-i w ↦ (search rules, search rules, omega arith, omega (arith, at.invariant.3, left-same a b c.requires.0 at.i (omega arith) w.if-a-i.false))
-    ]
-
-pub returns-then-count-limit : goal.returns-then-count-limit
-returns-then-count-limit c =
-    let at = c.loop-i in
-    let a = c.args in
-    omega (arith, at.invariant.3, left-done a.a.now a.b.now c.requires.0 at.i (omega arith))
-
-pub returns-else-count-limit : goal.returns-else-count-limit
-returns-else-count-limit c =
-    let at = c.loop-i in
-    let a = c.args in
-    omega (arith, at.invariant.3, left-done a.a.now a.b.now c.requires.0 at.i (omega arith))
+    let count =
+    count_from_yields_List c.filter.result c.count-count.result c.count-count.ensures.ran
+    (YieldsList-from_filter _ apart
+    (YieldsList-at c.filter.ensures.source (YieldsList-from_zip (YieldsList-at c.zip.ensures.first (YieldsList-from_slice a cc)) (YieldsList-from_slice b cc)))
+    c.filter.ensures.closure (λ x r q k. search (rules, tests)))
+    ∙ counted a b c.requires.0 c.requires.1 c.requires.2 in
+    rw (← count) (search rules)

@@ -5,6 +5,7 @@ use native.Mathlib.Nat.{sub-zero}
 use native.Mathlib.Omega.{arith}
 use borrow.Author.Rules.{rules}
 use Rattle.check32.specs.Check.{step}
+use Rattle.check32.specs.Working.Marks.{bits_after}
 use Rattle.check32.proofs.Marks.{mark-start, mark-next, mark_here, mark_later, mark-none}
 use Rattle.check32.proofs.bits_after.Goals as goal
 
@@ -15,7 +16,8 @@ pub returns-then-mark-register : goal.returns-then-mark-register
 returns-then-mark-register c =
     let at = c.loop-n in
     let a = c.args in
-    sym (mark_here a.register at.n a.k (omega arith) (sym at.invariant.1 ∙ c.if-mark-register.true)) ∙ at.invariant.2
+    let here : bits_after a.register a.k ≡ at.n = sym at.invariant.2 ∙ mark_here a.register at.n a.k (omega arith) (sym at.invariant.1 ∙ c.if-mark-register.true) in
+    rw here (search rules)
 
 pub loop-n-preserved : goal.loop-n-preserved
 loop-n-preserved c =
@@ -31,4 +33,5 @@ returns c =
     let at = c.loop-n in
     let a = c.args in
     let end : at.n ≡ a.k = omega arith in
-    sym end ∙ sym (mark-none a.register at.n a.k (omega arith)) ∙ at.invariant.2
+    let none : bits_after a.register a.k ≡ a.k = sym at.invariant.2 ∙ mark-none a.register at.n a.k (omega arith) ∙ end in
+    rw none (search rules)

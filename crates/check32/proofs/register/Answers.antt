@@ -1,33 +1,22 @@
-use mathlib.Core.Path.{◌≡◌, refl, sym, ◌∙◌}
-use Prim.Native.Nat.{◌/◌}
+use mathlib.Core.Path.{◌∙◌, sym}
 use native.Mathlib.Omega.{arith}
-use lib.ListN.{length}
 use borrow.Author.Rules.{rules}
 use Rattle.check32.proofs.ByteStep.{register-byte}
 use Rattle.check32.proofs.Word.{register_more, register-done}
 use Rattle.check32.proofs.register.Goals as goal
 
-pub loop-j-init : goal.loop-j-init
-loop-j-init c = (search rules, search rules, refl)
+pub loop-byte-preserved : goal.loop-byte-preserved
+loop-byte-preserved c =
+    let at = c.loop-byte in
+    let split = c.in-Some.ensures.split in
+    rw (c.step_byte-r.ensures, split.0, split.1) (register-byte at.rest.now at.r (search rules) ∙ at.invariant)
 
-pub loop-j-preserved : goal.loop-j-preserved
-loop-j-preserved c =
-    let at = c.loop-j in
-    let bits = c.args.bits.now in
-    (search rules, search rules, rw (c.step_byte-r.ensures, c.byte_at.ensures) (sym (register-byte bits at.r at.j (omega arith)) ∙ at.invariant.2))
-
-pub loop-i-init : goal.loop-i-init
-loop-i-init c =
-    let end : c.loop-j.j ≡ length c.args.bits.now / 8 = omega arith in
-    (search rules, search rules, rw end at c.loop-j.invariant.2)
-
-pub loop-i-preserved : goal.loop-i-preserved
-loop-i-preserved c =
-    let at = c.loop-i in
-    let bits = c.args.bits.now in
-    (search rules, search rules, rw c.step-r.ensures (sym (register_more bits at.r at.i (omega arith)) ∙ at.invariant.2))
+pub loop-bit-preserved : goal.loop-bit-preserved
+loop-bit-preserved c =
+    let at = c.loop-bit in
+    rw c.step-r.ensures (register_more c.loop-byte.rest.now at.r at.bit-index (omega arith) ∙ at.invariant)
 
 pub returns : goal.returns
 returns c =
-    let at = c.loop-i in
-    sym (register-done c.args.bits.now at.r at.i (omega arith)) ∙ at.invariant.2
+    let at = c.loop-bit in
+    sym (register-done c.loop-byte.rest.now at.r at.bit-index (omega arith)) ∙ at.invariant

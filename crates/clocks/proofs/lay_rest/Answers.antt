@@ -1,74 +1,46 @@
-use mathlib.Core.Path.{sym, ◌∙◌}
-use native.Mathlib.Omega.{arith}
-use Rattle.lists.proofs.Over.{start}
-use Rattle.bits.proofs.Bits.{bit_low}
-use Rattle.clocks.proofs.AtClock.{place_below, clock_fits, at_next, ending_fits, at-end}
-use borrow.Author.Rules.{rules}
+use mathlib.Core.Path.{◌≡◌, refl, sym, ap, ◌∙◌}
+use Prim.Native.Nat.{ℕ, ◌+◌, ◌%◌}
+use native.Mathlib.Nat.{mod-add-mod}
+use lib.ListN.{length}
+use Rattle.std.proofs.Common.{rules}
+use Rattle.std.proofs.lemmas.List.{length_push}
+use Rattle.std.proofs.lemmas.Slice.Zip.{either_empty_from_Zip}
+use Rattle.lists.proofs.Over.{more_piece, fits_piece, fits_rest, last}
+use Rattle.links.specs.Working.Clocks.{clocks_of}
+use Rattle.links.proofs.Clocks.{length-clocks}
+use Rattle.clocks.proofs.Left.{coded_more, coded-done}
 use Rattle.clocks.proofs.lay_rest.Goals as goal
 
-pub loop-s-init : goal.loop-s-init
-loop-s-init c =
-    let p = c.requires in
-    (search rules, record { ten = search rules; within = p.ready.within; place = sym p.ready.begins; small_a = p.ready.small_a; small_b = p.ready.small_b; laying = start _ _ _ p.room })
+pub lay-to-requires : goal.lay-to-requires
+lay-to-requires c =
+    let f = c.args.flags in
+    let l = c.loop-u in
+    rw (c.clocks-clocks.ensures, c.six.ensures) (fits_piece _ _ l.invariant.1 (coded_more (clocks_of f) f.tail (length l.yielded) l.registers.a l.registers.b _ _ l.invariant.0 refl c.in-Some.ensures.steps))
 
-pub offset_bounds-pattern-c : goal.offset_bounds-pattern-c
-offset_bounds-pattern-c c =
-    let p = c.requires.ready.ready in
-    omega (arith, place_below p c.loop-s.invariant.1, p.few)
-
-pub bounds-pattern-c : goal.bounds-pattern-c
-bounds-pattern-c c =
-    let p = c.requires.ready.ready in
-    omega (arith, place_below p c.loop-s.invariant.1, p.few)
-
-pub six-requires : goal.six-requires
-six-requires c =
-    let p = c.requires.ready.ready in
-    let l = c.loop-s in
-    let small-u = bit_low _ p.bits_u l.s in
-    let small-v = bit_low _ p.bits_v l.s in
-    (omega (arith, l.invariant.1.small_a), omega (arith, l.invariant.1.small_a, l.invariant.1.small_b), omega (arith, small-u), omega (arith, small-u, small-v))
-
-pub lay-at-requires : goal.lay-at-requires
-lay-at-requires c =
-    let p = c.requires.ready.ready in
-    let l = c.loop-s in
-    record { twice = p.pattern-flags l.c; room = clock_fits p l.invariant.1 (omega arith) _ (search rules) }
-
-pub next-a-requires : goal.next-a-requires
-next-a-requires c =
-    let p = c.requires.ready.ready in
-    let l = c.loop-s in
-    (l.invariant.1.small_a, bit_low _ p.bits_u l.s)
-
-pub next-b-requires : goal.next-b-requires
-next-b-requires c =
-    let p = c.requires.ready.ready in
-    let l = c.loop-s in
-    (l.invariant.1.small_b, omega (arith, bit_low _ p.bits_u l.s, bit_low _ p.bits_v l.s))
-
-pub next_clock-c-requires : goal.next_clock-c-requires
-next_clock-c-requires c =
-    let p = c.requires.ready.ready in
-    (place_below p c.loop-s.invariant.1, p.few)
-
-pub loop-s-preserved : goal.loop-s-preserved
-loop-s-preserved c =
-    let p = c.requires.ready.ready in
-    let l = c.loop-s in
-    let laid = rw c.six.ensures at c.lay-at.ensures in
-    (l.invariant.0, at_next p l.invariant.1 (omega arith) laid c.next-a.ensures c.next-b.ensures c.next_clock-c.ensures)
+pub loop-u-preserved : goal.loop-u-preserved
+loop-u-preserved c =
+    let f = c.args.flags in
+    let l = c.loop-u in
+    let n = length (clocks_of f) in
+    let after = length_push l.yielded (c.in-Some.field-0-0, c.in-Some.field-0-1) in
+    let moved : c.next_clock-clock.result ≡ (l.clock + 1) % n = rw (length-clocks f (search rules)) c.next_clock-clock.ensures in (
+      moved ∙ ap (λ (k : ℕ). (k + 1) % n) l.invariant.0 ∙ mod-add-mod (length l.yielded) n 1 ∙ ap (λ (k : ℕ). k % n) (sym after),
+      rw (c.next-registers.ensures.0, c.next-registers.ensures.1)
+          (more_piece _ _ l.invariant.1
+          (coded_more (clocks_of f) f.tail (length l.yielded) l.registers.a l.registers.b _ _ l.invariant.0 after c.in-Some.ensures.steps)
+          (rw (c.clocks-clocks.ensures, c.six.ensures) at c.lay-to.ensures)),
+    )
 
 pub end-requires : goal.end-requires
 end-requires c =
-    let p = c.requires.ready.ready in
-    let i = c.loop-s.invariant.1 in
-    record { small = (i.small_a, i.small_b, p.tail-flags); room = ending_fits p i (omega arith) }
-
-pub shape_of-out : goal.shape_of-out
-shape_of-out c = c.end.auto.out ∙ c.loop-s.invariant.1.laying.long
+    let f = c.args.flags in
+    let l = c.loop-u in
+    let none = either_empty_from_Zip l.u-iterator c.next.new.self c.next.result c.in-None.is c.next.ensures.steps in
+    fits_rest (rw (coded-done (clocks_of f) f.tail (length l.yielded) l.registers.a l.registers.b _ _ none) at l.invariant.1)
 
 pub returns : goal.returns
 returns c =
-    let p = c.requires.ready.ready in
-    at-end p c.loop-s.invariant.1 (omega arith) c.end.ensures
+    let f = c.args.flags in
+    let l = c.loop-u in
+    let none = either_empty_from_Zip l.u-iterator c.next.new.self c.next.result c.in-None.is c.next.ensures.steps in
+    last (rw (coded-done (clocks_of f) f.tail (length l.yielded) l.registers.a l.registers.b _ _ none) at l.invariant.1) c.end.ensures

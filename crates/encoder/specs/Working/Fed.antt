@@ -15,5 +15,5 @@ abbrev pub Taps : (Register → Bool → Bool) → ℕ → ℕ → Type 0
 Taps y made taps = (r : Register) (inputs : List Bool) → made ≡ fed_on r inputs → taps % 2 ^ length inputs ≡ number (outputs y r inputs)
 
 -- .. and last is the register after them
-abbrev pub Last : ℕ → ℕ → Type 0
-Last made last = (r : Register) (inputs : List Bool) → made ≡ fed_on r inputs → last ≡ number_of (register_after r inputs)
+abbrev pub Last : ℕ → Register → Type 0
+Last made last = (r : Register) (inputs : List Bool) → made ≡ fed_on r inputs → last ≡ register_after r inputs

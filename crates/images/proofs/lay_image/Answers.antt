@@ -1,17 +1,16 @@
--- The coded bits, and then the scrambler over all of them. Assumes nothing.
-use native.Mathlib.Omega.{arith}
-use Rattle.groups.proofs.OfRow.{length-coded_bytes}
+-- The coded bits, and then the scrambler over all of them, at the buffer's start. Assumes nothing.
+use Rattle.std.proofs.Common.{◌≡◌, ◌∙◌, sym, length, map}
+use lib.ListN.{length-map}
+use Rattle.lists.proofs.Over.{over_zero}
+use Rattle.bits.specs.Bits.{byte}
+use Rattle.blocks.specs.Block.{image_of}
+use Rattle.blocks.proofs.Sound.{length-image}
 use Rattle.images.proofs.Composed.{image_composed}
 use Rattle.images.proofs.lay_image.Goals as goal
 
-pub scramble-requires : goal.scramble-requires
-scramble-requires c =
-    let coded = c.lay_coded-n in
-    let long = length-coded_bytes c.args.row c.requires.0 c.args.u.now c.requires.1 in
-    (omega (arith, c.load.ensures), omega (arith, coded.ensures.0, long, coded.auto.out, c.requires.4))
-
 pub returns : goal.returns
 returns c =
-    image_composed c.args.row _ c.args.out.now _ _ _ _ _ c.lay_coded-n.ensures
-    c.load.ensures
-    c.scramble.ensures
+    let b = c.args.block in
+    let image = image_of b.link.row b.bits.now in
+    let long : length (map byte image) ≡ b.link.size = length-map image byte ∙ length-image b.link.row b.link.good b.bits.now b.whole ∙ sym b.link.sized in
+    rw (over_zero, long, image_composed b.link.row b.bits.now c.lay_coded.ensures c.load.ensures c.scramble.ensures)

@@ -1,25 +1,14 @@
-use mathlib.Core.Path.{ap}
-use native.Mathlib.Nat.{zero-add}
-use native.Mathlib.Omega.{arith}
-use lib.ListN.{length}
-use borrow.Author.Rules.{rules}
-use Rattle.printer_text.proofs.Line.{line-ends, line-goes-on, line-none}
+-- The chain counts the characters of the line. Assumes nothing.
+use Rattle.std.proofs.Common.{rules, tests, length, sym, ap, ◌∙◌}
+use Rattle.std.proofs.lemmas.Iterator.{YieldsList-from_slice}
+use Rattle.std.proofs.lemmas.Iterator.Consumers.{count_from_yields_List}
+use Rattle.std.proofs.lemmas.Iterator.Search.{YieldsList-from_take_while}
+use Rattle.printer_text.proofs.Line.{in_line, line-is}
 use Rattle.printer_text.proofs.line_end.Goals as goal
-
-pub loop-i-init : goal.loop-i-init
-loop-i-init c = (search rules, search rules, zero-add _)
-
-pub returns-then-input-i-eq10 : goal.returns-then-input-i-eq10
-returns-then-input-i-eq10 c =
-    let at = c.loop-i in
-    omega (arith, at.invariant.2, ap length (line-ends c.args.input.now at.i (omega arith) c.if-input-i-eq10.true))
-
-pub loop-i-preserved : goal.loop-i-preserved
-loop-i-preserved c =
-    let at = c.loop-i in
-    (search rules, search rules, omega (arith, at.invariant.2, ap length (line-goes-on c.args.input.now at.i (omega arith) c.if-input-i-eq10.false)))
 
 pub returns : goal.returns
 returns c =
-    let at = c.loop-i in
-    omega (arith, at.invariant.2, ap length (line-none c.args.input.now at.i (omega arith)))
+    let input = c.args.input.now in
+    count_from_yields_List c.take_while.result _ c.count.ensures.ran
+    (YieldsList-from_take_while _ in_line (YieldsList-from_slice input cc) c.take_while.ensures.closure c.take_while.ensures.done (λ x b q k. search (rules, tests)))
+    ∙ ap length (sym (line-is input))

@@ -1,22 +1,26 @@
--- Laid over the scratch, unscrambled, and its X taken out. Assumes nothing.
-use mathlib.Core.Path.{◌≡◌, sym, ◌∙◌}
-use Rattle.lists.specs.Over.{over}
-use Rattle.lists.proofs.Over.{over-all}
-use Rattle.received.proofs.Unscrambled.{plain_bits, received_is}
+-- What came, unscrambled, is bits again, and its X are the k bits. Assumes nothing.
+use Rattle.std.proofs.Common.{◌≡◌, Bool, true, List, [], ℕ, length, map, append-nil, sym, ap, ◌∙◌}
+use Rattle.std.proofs.Math.ListN.{length-map}
+use Rattle.bits.specs.Bits.{is_one, byte, all_bits}
+use Rattle.bits.proofs.Bits.{bits-bytes, bytes_bits}
+use Rattle.distance.specs.Working.Coding.{x_bits}
+use Rattle.turbo.specs.Working.Parity.{counts_of}
+use Rattle.scrambler.specs.Scrambler.{cells, loading_word, scrambled, scrambled_by}
+use Rattle.scrambler.specs.Working.Scrambles.{Scrambles}
+use Rattle.scrambler.proofs.Calls.{scrambles_row}
+use Rattle.blocks.proofs.Received.{received_x}
 use Rattle.received.proofs.receive.Goals as goal
 
-pub take_x-requires : goal.take_x-requires
-take_x-requires c =
-    let copied : over 0 c.args.came.now c.args.plain.now ≡ c.args.came.now = over-all c.args.came.now c.args.plain.now (c.requires.0.size ∙ sym c.requires.2) in
-    let a = c.args in (
-      c.requires.0.good,
-      c.requires.1,
-      c.scramble.auto.out ∙ c.lay_bytes.auto.out ∙ c.requires.2,
-      plain_bits a.came.now _ _ _ _ c.requires.0.bits (c.lay_bytes.ensures ∙ copied) c.scramble.ensures,
-    )
+-- bytes that are bits, scrambled by a fresh register
+unscrambled : (came plain : List ℕ) (state register : ℕ) → all_bits came ≡ true → state ≡ loading_word → Scrambles state (length came) came plain register
+    → map is_one plain ≡ scrambled (map is_one came)
+unscrambled came plain state register bits load s =
+    let row = map is_one came in
+    let out : plain ≡ map byte (scrambled_by (cells state) row) = scrambles_row s row [] (sym (append-nil _ ∙ bytes_bits came bits)) (length-map came is_one) ∙ append-nil _ in
+    ap (map is_one) out ∙ bits-bytes (scrambled_by (cells state) row) ∙ ap (λ (w : ℕ). scrambled_by (cells w) row) load
 
 pub returns : goal.returns
 returns c =
-    let copied : over 0 c.args.came.now c.args.plain.now ≡ c.args.came.now = over-all c.args.came.now c.args.plain.now (c.requires.0.size ∙ sym c.requires.2) in
-    let a = c.args in
-    received_is a.came.now _ _ _ _ c.requires.0.bits (c.lay_bytes.ensures ∙ copied) c.scramble.ensures c.load.ensures a.row _ c.take_x.ensures
+    let came = c.args.came in
+    let out = unscrambled came.bits.now c.scramble.new.out _ _ came.all (cc) (rw c.copy_from_slice.ensures.after at c.scramble.ensures) in
+    c.take_x.ensures ∙ ap (λ (row : List Bool). x_bits (counts_of came.link.row) row) out ∙ sym (received_x came.link.row (map is_one came.bits.now))

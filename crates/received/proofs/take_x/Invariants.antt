@@ -1,7 +1,6 @@
--- Clock by clock. Assumes nothing.
-use Rattle.links.specs.Patterns.{pattern_of}
+-- Clock by clock.
 use Rattle.received.proofs.Taking.{Taking}
 use Rattle.received.proofs.take_x.Given as goal
 
-abbrev pub invariant-loop-s : goal.invariant-loop-s
-invariant-loop-s l = Taking (pattern_of l.name) l.coded l.initial.u l.u l.at l.clock l.s
+abbrev pub invariant-loop-bit : goal.invariant-loop-bit
+invariant-loop-bit l = Taking l.fn.link.row l.coded l.at l.clock l.bit-index l.bit-items

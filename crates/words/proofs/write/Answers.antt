@@ -1,32 +1,30 @@
 -- Both refusals come before the row is laid. Assumes nothing.
-use mathlib.Core.Path.{sym, ap, ◌∙◌}
-use mathlib.Core.List.{map}
+use mathlib.Core.Path.{◌≡◌, refl, sym, ap, ap₂, ◌∙◌}
+use mathlib.Core.List.{List, map, ◌++◌}
+use lib.Seq.{length-take-le}
 use Prim.Native.Nat.{ℕ}
-use native.Mathlib.Omega.{arith}
-use lib.ListN.{length}
+use lib.ListN.{length, drop}
+use Rattle.lists.proofs.Over.{over_zero}
 use Rattle.answers.specs.Written.{wrote}
 use Rattle.answers.proofs.Wrote.{refuses, lays}
 use Rattle.bits.specs.Bits.{byte}
 use Rattle.bits.specs.Row.{high_first}
-use Rattle.lists.specs.Over.{over}
+use Rattle.words.specs.Word.{word_bits}
 use Rattle.words.proofs.Calls.{write_high, write-short, write_done, length-word}
 use Rattle.words.proofs.write.Goals as goal
 
 pub returns-then-number-gt63 : goal.returns-then-number-gt63
-returns-then-number-gt63 c =
-    let a = c.args in
-    refuses (write_high a.number (length a.out.now) (omega arith)) c.refuse.ensures
+returns-then-number-gt63 c = refuses (write_high c.args.number (length c.args.out.now) c.if-number-gt63.true) refl
 
 pub returns-then-out-lt32 : goal.returns-then-out-lt32
-returns-then-out-lt32 c =
-    let a = c.args in
-    refuses (write-short a.number (length a.out.now) (omega arith) (omega arith)) c.refuse-then-out-lt32.ensures
+returns-then-out-lt32 c = refuses (write-short c.args.number (length c.args.out.now) c.if-number-gt63.false c.if-out-lt32.true) refl
 
 pub returns : goal.returns
 returns c =
-    let a = c.args in
-    let word = ap (λ (w : ℕ). over 0 (map byte (high_first 32 w)) a.out.now) c.word_of.ensures in
+    let n = c.args.number in
+    let out = c.args.out.now in
+    let word : c.lay_bits.new.row ≡ map byte (word_bits n) = c.lay_bits.ensures ∙ ap₂ (λ (k w : ℕ). map byte (high_first k w)) (length-take-le 32 out c.if-out-lt32.false) c.word_of.ensures in
     lays
-    (write_done a.number (length a.out.now) (omega arith) (omega arith))
-    (c.done.ensures ∙ ap wrote (sym (length-word a.number)))
-    (c.lay_row.ensures ∙ word)
+    (write_done n (length out) c.if-number-gt63.false c.if-out-lt32.false)
+    (ap wrote (sym (length-word n)))
+    (rw (over_zero (map byte (word_bits n)) out, length-word n) (ap (λ (row : List ℕ). row ++ drop 32 out) word))

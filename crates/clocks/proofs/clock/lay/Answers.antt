@@ -1,40 +1,25 @@
 use mathlib.Core.Path.{◌≡◌}
-use Prim.Native.Nat.{◌+◌}
-use native.Mathlib.Omega.{arith}
-use lib.ListN.{length, get_or, drop, replicate}
-use borrow.Author.Rules.{rules}
+use Rattle.std.proofs.Common.{rules}
+use Rattle.std.proofs.lemmas.Slice.Zip.{either_empty_from_Zip}
+use Rattle.std.specs.Iterator.Adapters.{zip_first, zip_second}
+use Rattle.std.specs.Slice.Iter.{iter_rest}
 use Rattle.lists.proofs.Over.{start, more_piece, fits_piece, done}
-use Rattle.turbo.specs.Coded.{passed}
-use Rattle.turbo.proofs.Passing.{passed_more, passed-done}
+use Rattle.clocks.proofs.Left.{passed_more, passed-done}
 use Rattle.clocks.proofs.clock.lay.Goals as goal
 
-pub loop-x-init : goal.loop-x-init
-loop-x-init c = (search rules, start _ _ _ c.requires.room)
+pub loop-flag-init : goal.loop-flag-init
+loop-flag-init c =
+    let first : iter_rest (zip_first c.into_iter-flag-iterator.result) ≡ c.args.flags.now = search rules in
+    let second : iter_rest (zip_second c.into_iter-flag-iterator.result) ≡ c.args.six = search rules in
+    rw (first, second) (start _ _ _ c.requires)
 
 pub pass-to-requires : goal.pass-to-requires
-pass-to-requires c =
-    let a = c.args in
-    let l = c.loop-x in
-    let six : length a.flags ≡ 6 = search rules in
-    let six-bits : length a.bits ≡ 6 = search rules in
-    let copies = replicate (get_or a.flags l.x 0) (get_or a.bits l.x 0) in
-    let rest = passed (drop (l.x + 1) a.flags) (drop (l.x + 1) a.bits) in
-    record { twice = c.requires.twice l.x; room = fits_piece copies rest l.invariant.1 (passed_more a.flags a.bits l.x (omega arith) (omega arith)) }
+pass-to-requires c = fits_piece _ _ c.loop-flag.invariant (passed_more _ _ c.in-Some.ensures.steps)
 
-pub loop-x-preserved : goal.loop-x-preserved
-loop-x-preserved c =
-    let a = c.args in
-    let l = c.loop-x in
-    let six : length a.flags ≡ 6 = search rules in
-    let six-bits : length a.bits ≡ 6 = search rules in
-    (search rules, more_piece _ _ l.invariant.1 (passed_more a.flags a.bits l.x (omega arith) (omega arith)) c.pass-to.ensures)
+pub loop-flag-preserved : goal.loop-flag-preserved
+loop-flag-preserved c = more_piece _ _ c.loop-flag.invariant (passed_more _ _ c.in-Some.ensures.steps) c.pass-to.ensures
 
 pub returns : goal.returns
 returns c =
-    let a = c.args in
-    let l = c.loop-x in
-    let six : length a.flags ≡ 6 = search rules in
-    done l.invariant.1 (passed-done a.flags a.bits l.x (omega arith))
-
-pub shape_of-out : goal.shape_of-out
-shape_of-out c = c.loop-x.invariant.1.long
+    let none = either_empty_from_Zip c.loop-flag.flag-iterator c.next.new.self c.next.result c.in-None.is c.next.ensures.steps in
+    done c.loop-flag.invariant (passed-done _ _ none)

@@ -1,9 +1,10 @@
--- Bit by bit: what the flags from x on pass on is left to lay. Assumes nothing.
-use Prim.Native.Nat.{◌≤◌}
-use lib.ListN.{drop}
+-- Bit by bit: what the flags that are left pass on of the bits that are left is left to lay. Assumes nothing.
+use Rattle.std.specs.Iterator.Adapters.{zip_first, zip_second}
+use Rattle.std.specs.Slice.Iter.{iter_rest}
 use Rattle.lists.specs.Working.Laying.{Laying}
 use Rattle.turbo.specs.Coded.{passed}
 use Rattle.clocks.proofs.clock.lay.Given as goal
 
-abbrev pub invariant-loop-x : goal.invariant-loop-x
-invariant-loop-x l = (l.x ≤ 6) × Laying l.initial.out l.at (passed l.flags l.bits) l.out l.to (passed (drop l.x l.flags) (drop l.x l.bits))
+abbrev pub invariant-loop-flag : goal.invariant-loop-flag
+invariant-loop-flag l =
+    Laying l.initial.out l.at (passed l.flags l.fn.six) l.out l.to (passed (iter_rest (zip_first l.flag-iterator)) (iter_rest (zip_second l.flag-iterator)))

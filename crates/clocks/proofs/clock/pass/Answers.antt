@@ -1,34 +1,26 @@
--- No copy, one or two. Assumes nothing.
-use mathlib.Core.Path.{◌≡◌, refl}
-use mathlib.Core.List.{[], ◌∷◌}
+-- A part of a slice is filled. Assumes nothing.
+use mathlib.Core.Path.{◌≡◌, sym, ap, ◌∙◌}
+use mathlib.Core.List.{List, ◌++◌, append_assoc}
+use Prim.Native.Nat.{ℕ, ◌+◌, ◌-◌}
 use native.Mathlib.Omega.{arith}
-use lib.ListN.{length-replicate, length-set}
-use Rattle.lists.proofs.Over.{start, more, done, lays_one}
+use lib.ListN.{length, take, drop, replicate, length-replicate, length-drop}
+use lib.Seq.{drop-drop, length-take-le}
+use borrow.Rule.Slice.PartMut.{put_mid}
+use Rattle.lists.specs.Over.{over}
 use Rattle.clocks.proofs.clock.pass.Goals as goal
 
-pub returns-then-flag-eq0 : goal.returns-then-flag-eq0
-returns-then-flag-eq0 c =
-    let a = c.args in
-    let none : a.flag ≡ 0 = c.if-flag-eq0.true in
-    rw none (done (start a.out.now a.at [] (rw none at c.requires.room)) refl)
-
-pub bounds-out-at : goal.bounds-out-at
-bounds-out-at c = let a = c.args in omega (arith, c.if-flag-eq0.false, c.requires.room, length-replicate a.flag a.bit)
-
-pub returns-then-flag-eq1 : goal.returns-then-flag-eq1
-returns-then-flag-eq1 c =
-    let a = c.args in
-    let one : a.flag ≡ 1 = c.if-flag-eq1.true in
-    rw one (lays_one a.at a.bit a.out.now (omega (arith, rw one at c.requires.room)))
-
-pub bounds-out-at-2 : goal.bounds-out-at-2
-bounds-out-at-2 c =
-    let a = c.args in
-    simp length-set (omega (arith, c.if-flag-eq0.false, c.if-flag-eq1.false, c.requires.room, length-replicate a.flag a.bit))
+-- what is written into a part of a list is laid over it
+part-over : (at : ℕ) (p old : List ℕ) → put_mid at (length p) old p ≡ over at p old
+unfolding over
+part-over at p old =
+    sym (append_assoc (take at old) p (drop (length p) (drop at old))) ∙ ap (λ (rest : List ℕ). take at old ++ p ++ rest) (drop-drop (length p) at old)
 
 pub returns : goal.returns
 returns c =
     let a = c.args in
-    let two : a.flag ≡ 2 = omega (arith, c.if-flag-eq0.false, c.if-flag-eq1.false, c.requires.twice) in
-    let l = done (more a.bit [] (more a.bit (a.bit ∷ []) (start a.out.now a.at (a.bit ∷ a.bit ∷ []) (rw two at c.requires.room)) refl) refl) refl in
-    rw two (omega arith, l.1)
+    let copies = replicate a.flag a.byte in
+    let many : length copies ≡ a.flag = length-replicate a.flag a.byte in
+    let size : a.at + c.from.result - a.at ≡ length copies = omega (arith, many) in
+    let room : length (take (length copies) (drop a.at a.out.now)) ≡ a.flag = length-take-le (length copies) (drop a.at a.out.now) (omega (arith, length-drop a.at a.out.now)) ∙ many in
+    let filled : c.fill.new.self ≡ copies = c.fill.ensures.after (λ y e. e) ∙ rw (size, room) in
+    (omega (arith, many), rw (filled, size) (part-over a.at copies a.out.now))

@@ -1,22 +1,15 @@
--- A refusal of the head is the whole answer; else the rest is read as a block, and joined with the head. Assumes nothing.
-use Rattle.answers.proofs.Wrote.{refuses}
-use Rattle.lists.proofs.Parts.{part_rest}
-use Rattle.slots.proofs.Reading.{head-refused, joins, head-long}
+-- What reading the rest as a block left is joined with the head.
+use Rattle.std.proofs.Common.{arith, refl}
+use Rattle.std.proofs.lemmas.Bool.Decides.{nat_tests}
+use Rattle.slots.specs.Calls.{both}
+use Rattle.slots.proofs.Calls.{refusal_number}
+use Rattle.slots.proofs.Reading.{joins}
 use Rattle.slots.proofs.reader.read.Goals as goal
 
-pub returns-then-head-ne0 : goal.returns-then-head-ne0
-returns-then-head-ne0 c =
-    let a = c.args in
-    refuses (head-refused a.burst.now a.out.now c.read-head.ensures c.if-head-ne0.true) c.refuse.ensures
-
-pub slice_bounds-read-count : goal.slice_bounds-read-count
-slice_bounds-read-count c = head-long c.args.burst.now c.read-head.ensures c.if-head-ne0.false
-
-pub slice_bounds-read-start : goal.slice_bounds-read-start
-slice_bounds-read-start c = head-long c.args.burst.now c.read-head.ensures c.if-head-ne0.false
+pub returns-in_err-block : goal.returns-in_err-block
+unfolding both
+returns-in_err-block c = joins _ _ _ c.in_ok-head.ensures refl c.in_err-block.ensures (grind (arith, nat_tests, refusal_number))
 
 pub returns : goal.returns
-returns c =
-    let a = c.args in
-    let head = c.read-head in
-    joins a.burst.now a.out.now head.ensures c.if-head-ne0.false _ (part_rest 86 a.burst.now) _ c.read-block.ensures c.join.ensures
+unfolding both
+returns c = joins _ _ _ c.in_ok-head.ensures refl c.in_ok-block.ensures refl

@@ -1,8 +1,8 @@
--- Symbol by symbol, two bits each. Assumes nothing.
-use mathlib.Core.Path.{◌≡◌}
-use Prim.Native.Nat.{◌≤◌}
-use Rattle.slots.proofs.Symbols.{characters, Training}
+-- The bits so far are the training's.
+use Rattle.std.proofs.Common.{◌≡◌, map, take}
+use Rattle.bits.specs.Bits.{byte}
+use Rattle.slots.specs.Burst.{training}
 use Rattle.slots.proofs.training.lay.Given as goal
 
 abbrev pub invariant-loop-i : goal.invariant-loop-i
-invariant-loop-i l = (l.i ≤ 27) × (l.symbols ≡ characters) × Training l.initial.out l.out l.i
+invariant-loop-i l = take l.i l.bits ≡ take l.i (map byte training)

@@ -1,16 +1,13 @@
--- Symbol by symbol: the count so far and what is left to count make the whole. Assumes nothing.
-use mathlib.Core.Path.{◌≡◌}
-use mathlib.Core.List.{List, map}
-use Prim.Native.Nat.{ℕ, ◌+◌, ◌*◌, ◌≤◌}
-use Rattle.bits.specs.Bits.{is_one, byte}
-use Rattle.bits.specs.Row.{differences}
-use Rattle.bits.proofs.Counted.{left_at}
-use Rattle.slots.specs.Burst.{training}
-use Rattle.slots.proofs.Symbols.{characters}
+-- The count so far, against what is left of what came and of the symbols.
+use Rattle.std.proofs.Common.{◌≡◌}
+use Rattle.std.specs.Array.Iter.{array_into_iter_items}
+use Rattle.std.specs.Slice.Iter.{chunks_exact_rest, chunks_exact_size}
+use Rattle.std.specs.Iterator.Adapters.{zip_first, zip_second}
+use Rattle.slots.proofs.Symbols.{Compared}
 use Rattle.slots.proofs.training.wrong.Given as goal
 
-abbrev pub left : List ℕ → ℕ → ℕ
-left came n = left_at (map byte training) came (2 * n)
-
-abbrev pub invariant-loop-n : goal.invariant-loop-n
-invariant-loop-n l = (l.n ≤ 27) × (l.symbols ≡ characters) × (l.count ≤ 2 * l.n) × (l.count + left l.came l.n ≡ differences training (map is_one l.came))
+abbrev pub invariant-loop-pair : goal.invariant-loop-pair
+invariant-loop-pair l =
+    let pairs = zip_first l.pair-iterator in
+    (chunks_exact_size pairs ≡ 2)
+    × Compared l.came (array_into_iter_items (zip_second l.pair-iterator)) (chunks_exact_rest pairs) l.count

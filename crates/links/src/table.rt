@@ -1,0 +1,54 @@
+// Table 4: link, k, k1, k2, the primes p1 .. p8, pattern and tail; and N, the bits of an image, which is what the clocks and the tail pass
+// on, proved to be that sum. Link 4's k2 is printed as 240; its k makes it 238.
+ghost use Rattle.std.specs.Prelude.{◌≡◌, ◌↔◌, true, IsSome, IfSome};
+ghost use Rattle.links.specs.Rows.{offered, row_of};
+ghost use Rattle.links.specs.Sizes.{image_length};
+
+use crate::Row;
+
+#[rattlefmt::skip]
+const TABLE_4: [(u32, usize, usize, usize, [u32; 8], u32, u32, usize); 23] = [
+    (4, 952, 4, 238, [113, 31, 59, 163, 29, 181, 101, 11], 0x8, 0x8, 1281),
+    (5, 288, 2, 144, [47, 17, 233, 127, 239, 139, 199, 163], 0x8, 0x8b, 394),
+    (6, 672, 2, 336, [37, 101, 191, 149, 79, 131, 229, 31], 0x8, 0x8b, 906),
+    (7, 1056, 4, 264, [23, 31, 167, 223, 59, 113, 47, 211], 0x8, 0x8b, 1418),
+    (8, 192, 2, 96, [31, 37, 43, 47, 53, 59, 61, 67], 0x6, 0x6, 396),
+    (9, 448, 2, 224, [31, 37, 43, 47, 53, 59, 61, 67], 0x6, 0x6, 908),
+    (10, 704, 2, 352, [31, 37, 43, 47, 53, 59, 61, 67], 0x6, 0x6, 1420),
+    (11, 432, 2, 216, [127, 191, 241, 5, 83, 109, 107, 179], 0x6, 0x6a, 874),
+    (12, 972, 2, 486, [31, 37, 43, 47, 53, 59, 61, 67], 0x8, 0x8, 1308),
+    (13, 1296, 2, 648, [31, 37, 43, 47, 53, 59, 61, 67], 0x8, 0x8, 1740),
+    (14, 896, 2, 448, [31, 37, 43, 47, 53, 59, 61, 67], 0x6, 0x6, 1804),
+    (15, 2016, 4, 504, [31, 37, 43, 47, 53, 59, 61, 67], 0x8, 0x8, 2700),
+    (16, 2688, 4, 672, [31, 37, 43, 47, 53, 59, 61, 67], 0x8, 0x8, 3596),
+    (17, 1872, 6, 312, [211, 61, 227, 239, 181, 79, 73, 193], 0x6, 0x6a, 3754),
+    (18, 4032, 4, 1008, [31, 37, 43, 47, 53, 59, 61, 67], 0x8, 0x8, 5388),
+    (19, 5616, 16, 351, [137, 101, 223, 41, 67, 131, 61, 47], 0x8, 0x8, 7500),
+    (20, 96, 2, 48, [37, 83, 211, 61, 107, 101, 149, 167], 0x2, 0x2a, 402),
+    (21, 736, 2, 368, [139, 17, 241, 47, 109, 11, 29, 163], 0x7a, 0x7a, 1112),
+    (22, 3120, 16, 195, [89, 47, 239, 17, 127, 59, 43, 31], 0x7a, 0x7b, 4692),
+    (23, 4544, 4, 1136, [31, 37, 43, 47, 53, 59, 61, 67], 0x7b, 0x7b, 6828),
+    (25, 4776, 12, 398, [31, 37, 43, 47, 53, 59, 61, 67], 0x6, 0x6a, 9562),
+    (32, 312, 2, 156, [37, 79, 29, 139, 151, 97, 181, 157], 0x2, 0x2e, 1269),
+    (33, 4280, 8, 535, [59, 37, 157, 167, 239, 83, 163, 29], 0x4, 0x4a, 12855),
+];
+
+// The row of a link that is offered, and its N.
+pub fn find(number: u32) -> Option<(Row, usize)>
+    ensures offered { IsSome result ↔ (offered number ≡ true) }
+    ensures found { IfSome result (λ (row, size). (row ≡ row_of number) × (size ≡ image_length (row_of number))) }
+{
+    // by its place: an entry by reference would be a table of addresses in the archive (host/archive.symbols)
+    let place = TABLE_4.iter().position(|entry| entry.0 == number)?;
+    let (link, k, k1, k2, primes, pattern, tail, size) = TABLE_4[place];
+    let row = Row {
+        link,
+        k,
+        k1,
+        k2,
+        primes,
+        pattern,
+        tail,
+    };
+    Some((row, size))
+}
