@@ -59,11 +59,11 @@ pub fn lay_bytes(bytes: &[u8], out: &mut [u8], at: usize)
 
 // The byte that a row of bits begins with, the first of its eight the highest, and the bits behind it.
 #[tactic(auto, using(crate::proofs::Datagram::byte_small))]
-pub fn split_byte(row: &[bool]) -> Option<(u8, &[bool])>
+pub fn split_byte<B: Bit>(row: &[B]) -> Option<(u8, &[B])>
     ensures short { IsNone result ↔ (length row.now < 8) }
-    ensures split { IfSome result (λ (byte, behind). (byte ≡ number (take 8 row.now)) × (behind.now ≡ drop 8 row.now)) }
+    ensures split { IfSome result (λ (byte, behind). (byte ≡ number (take 8 (map B.value row.now))) × (behind.now ≡ drop 8 row.now)) }
 {
-    let (eight, behind) = row.split_first_chunk::<8>()?;
+    let (eight, behind) = row.split_at_checked(8)?;
     Some((number_of(eight) as u8, behind))
 }
 

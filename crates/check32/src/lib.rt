@@ -3,12 +3,14 @@
 
 mod bytes;
 
-ghost use Rattle.std.specs.Prelude.{◌≡◌, ltb};
+ghost use Rattle.std.specs.Prelude.{◌≡◌, map, ltb};
 ghost use Rattle.std.specs.Bool.{then_some};
 ghost use Rattle.bits.specs.Row.{high_first};
 ghost use Rattle.check32.specs.Working.Bytes.{byte_marks};
 ghost use Rattle.check32.specs.Check.{step, register_from, loaded};
 ghost use Rattle.check32.specs.Working.Marks.{bits_after};
+
+use bits::Bit;
 
 // One bit goes into the register at its high end, and the register moves up a place; the generator is added where a one falls out.
 pub fn step(r: u32, bit: bool) -> u32
@@ -38,8 +40,8 @@ pub fn load() -> u32
 }
 
 // The register run on over a row of bits. Loaded first, it ends at 0 where the row closes.
-pub fn register(from: u32, bits: &[bool]) -> u32
-    ensures { result ≡ register_from from bits.now }
+pub fn register<B: Bit>(from: u32, bits: &[B]) -> u32
+    ensures { result ≡ register_from from (map B.value bits.now) }
 {
     let marks = bytes::marks();
     let mut r = from;
@@ -50,7 +52,7 @@ pub fn register(from: u32, bits: &[bool]) -> u32
     }
     // the rest, bit by bit
     for &bit in rest {
-        r = step(r, bit);
+        r = step(r, bit.is_one());
     }
     r
 }

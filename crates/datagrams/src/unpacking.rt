@@ -1,6 +1,8 @@
 // The bits of a datagram laid in a row.
-ghost use Rattle.std.specs.Prelude.{◌≡◌, false, ◌+◌, ◌^◌, ◌<◌, length, get_or, drop};
+ghost use Rattle.std.specs.Prelude.{◌≡◌, false, ◌+◌, ◌^◌, ◌<◌, length, get_or, drop, map};
 ghost use Rattle.bits.specs.Datagram.{bits_of, filled};
+
+use bits::Bit;
 
 // Bit i of a datagram, 0 behind its end.
 #[tactic(auto, using(crate::proofs::Unpacked::bit_is))]
@@ -12,11 +14,11 @@ fn bit_at(datagram: &[u8], i: usize) -> bool
 }
 
 // Fills a row with the bits of a datagram from a bit on, zero bits behind its end.
-pub fn unpack(datagram: &[u8], from: usize, row: &mut [bool])
+pub fn unpack<B: Bit>(datagram: &[u8], from: usize, row: &mut [B])
     requires { from + length row.old < 2 ^ 64 }
-    ensures { row.new ≡ filled (length row.old) (drop from (bits_of datagram.now)) }
+    ensures { row.new ≡ map B.holding (filled (length row.old) (drop from (bits_of datagram.now))) }
 {
-    for (i, bit) in row.iter_mut().enumerate() {
-        *bit = bit_at(datagram, from + i);
+    for (i, cell) in row.iter_mut().enumerate() {
+        *cell = B::from_bit(bit_at(datagram, from + i));
     }
 }

@@ -1,5 +1,5 @@
 -- The count is no more than the bits of both images; the datagram is packed where the block is accepted. Assumes nothing.
-use Rattle.std.proofs.Common.{◌≡◌, ◌+◌, ◌≤◌, [], Fits, w8, arith, get_or, length, map, rules}
+use Rattle.std.proofs.Common.{◌≡◌, ◌+◌, ◌≤◌, [], Fits, w8, arith, get_or, length, map, map-id, rules}
 use Rattle.std.proofs.lemmas.List.{length-map}
 use Rattle.bits.specs.Bits.{is_one}
 use Rattle.bits.specs.Row.{differences}
@@ -28,4 +28,4 @@ pub returns : goal.returns
 unfolding within
 returns c =
     let bytes = bytes-known c.args.out.now (λ i. let byte : Fits w8 (get_or c.args.out.now i 0) = search rules in byte.fits) in
-    grind (arith, sizes, datagram_packed, length-datagram)
+    grind (arith, sizes, datagram_packed, length-datagram, map-id)

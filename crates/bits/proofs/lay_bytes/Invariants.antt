@@ -1,6 +1,6 @@
 -- Byte by byte: what is left to lay at i are the bytes from i on.
 use mathlib.Core.Path.{◌≡◌}
-use Prim.Native.Nat.{◌+◌, ◌-◌, ◌≤◌}
+use Prim.Native.Nat.{◌+◌, ◌≤◌}
 use lib.ListN.{length, drop}
 use Rattle.lists.specs.Working.Laying.{Laying}
 use Rattle.bits.proofs.lay_bytes.Given as goal
