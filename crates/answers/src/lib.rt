@@ -3,6 +3,7 @@
 #![tactic(auto)]
 
 ghost use Rattle.std.specs.Prelude.{◌≡◌};
+ghost use Rattle.answers.specs.Written.{refused, wrote};
 
 // Why a call is refused, by the number that C gets.
 #[derive(Clone, Copy, Debug, PartialEq, Eq)]
@@ -41,6 +42,20 @@ pub struct Written {
     pub count: u32,
 }
 
+// A writing call refuses with a number.
+pub fn refuse(status: u32) -> Written
+    ensures { result ≡ refused status }
+{
+    Written { status, count: 0 }
+}
+
+// A writing call is done, with the count of bytes.
+pub fn done(count: u32) -> Written
+    ensures { result ≡ wrote count }
+{
+    Written { status: 0, count }
+}
+
 impl From<Result<u32, Refusal>> for Written {
     ghost use Rattle.answers.specs.Working.Refusals.{written};
 
@@ -48,11 +63,8 @@ impl From<Result<u32, Refusal>> for Written {
 
     fn from(outcome: Result<u32, Refusal>) -> Written {
         match outcome {
-            Ok(count) => Written { status: 0, count },
-            Err(refusal) => Written {
-                status: refusal.into(),
-                count: 0,
-            },
+            Ok(count) => done(count),
+            Err(refusal) => refuse(refusal.into()),
         }
     }
 }

@@ -14,7 +14,7 @@ ghost use Rattle.block_reader.specs.Working.Mends.{Mends};
 use accepting::{accept, over_zero};
 use answers::Refusal;
 use blocks::{Came, Found};
-use links::{BlockBits, LONGEST_BLOCK, LONGEST_IMAGE, Link};
+use links::{LONGEST_BLOCK, LONGEST_IMAGE, Link};
 use lists::cleared;
 use received::receive;
 
@@ -41,11 +41,7 @@ fn read_with(came: Came, u: &mut [bool], image: &mut [u8], out: &mut [u8]) -> Re
 {
     receive(came, image, u);
     mend(u)?;
-    let block = BlockBits {
-        link: came.link,
-        bits: u,
-    };
-    if !over_zero(block) {
+    if !over_zero(came.link, u) {
         return Err(Refusal::NoBlock);
     }
     accept(came, u, 1, Refusal::NoBlock, image, out)

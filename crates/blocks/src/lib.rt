@@ -5,6 +5,7 @@
 ghost use Rattle.std.specs.Prelude.{◌≡◌, true, length};
 ghost use Rattle.bits.specs.Bits.{all_bits};
 ghost use Rattle.links.specs.Sizes.{image_length};
+ghost use Rattle.blocks.specs.Calls.{refused};
 
 use answers::Refusal;
 use links::Link;
@@ -34,6 +35,17 @@ pub struct Block {
     pub wrong: u32,
 }
 
+// Reading refuses with a number.
+pub fn refuse(status: u32) -> Block
+    ensures { result ≡ (refused status).answer }
+{
+    Block {
+        status,
+        count: 0,
+        wrong: 0,
+    }
+}
+
 impl From<Result<Found, Refusal>> for Block {
     ghost use Rattle.std.specs.Prelude.{◌≡◌};
     ghost use Rattle.blocks.specs.Working.Answer.{block_answer};
@@ -47,11 +59,7 @@ impl From<Result<Found, Refusal>> for Block {
                 count: found.count,
                 wrong: found.wrong,
             },
-            Err(refusal) => Block {
-                status: refusal.into(),
-                count: 0,
-                wrong: 0,
-            },
+            Err(refusal) => refuse(refusal.into()),
         }
     }
 }

@@ -5,8 +5,12 @@ mod flags;
 mod link;
 mod table;
 
-pub use flags::Flags;
+ghost use Rattle.std.specs.Prelude.{◌≡◌, ◌≤◌};
+ghost use Rattle.links.specs.Sizes.{open_bits, bytes_held};
+
+pub use flags::{Flags, clocks, pattern, tail};
 pub use link::{BlockBits, Link};
+pub use table::{has_row, image_length_at, place_of, row_at};
 
 // A row of Table 4. A pattern or tail is named by its printed name as a hexadecimal number: 0x7a is pattern 7a. The names are numbers and no
 // enum, since the definitions `rows` and `no_row` have them so, the latter 0.
@@ -25,3 +29,19 @@ pub struct Row {
 pub const LONGEST_BLOCK: usize = 5616;
 
 pub const LONGEST_IMAGE: usize = 12855;
+
+// The bits before the check.
+pub fn open_bits(row: Row) -> usize
+    requires { 32 ≤ row.k }
+    ensures { result ≡ open_bits row }
+{
+    row.k - 32
+}
+
+// The whole bytes that a row's blocks hold.
+pub fn bytes_held(row: Row) -> usize
+    requires { 32 ≤ row.k }
+    ensures { result ≡ bytes_held row }
+{
+    open_bits(row) / 8
+}

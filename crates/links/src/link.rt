@@ -42,14 +42,15 @@ impl Link {
     pub fn open_bits(self) -> usize
         ensures { result ≡ open_bits self.row }
     {
-        self.row.k - 32
+        crate::open_bits(self.row)
     }
 
     // The whole bytes that it holds.
+    #[tactic(auto, using(crate::proofs::Facts::sizes))]
     pub fn bytes_held(self) -> usize
         ensures { result ≡ bytes_held self.row }
     {
-        self.open_bits() / 8
+        crate::bytes_held(self.row)
     }
 
     // What its clocks pass on.

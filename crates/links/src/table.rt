@@ -1,13 +1,16 @@
 // Table 4: link, k, k1, k2, the primes p1 .. p8, pattern and tail; and N, the bits of an image, which is what the clocks and the tail pass
 // on, proved to be that sum. Link 4's k2 is printed as 240; its k makes it 238.
-ghost use Rattle.std.specs.Prelude.{◌≡◌, ◌↔◌, true, IsSome, IfSome};
-ghost use Rattle.links.specs.Rows.{offered, row_of};
+ghost use Rattle.std.specs.Prelude.{◌≡◌, ◌↔◌, true, ◌<◌, ltb, length, get_or, IsSome, IfSome};
+ghost use Rattle.links.specs.Rows.{rows, no_row, place, offered, row_of};
 ghost use Rattle.links.specs.Sizes.{image_length};
 
 use crate::Row;
 
+// How many rows it has.
+const ROWS: usize = 23;
+
 #[rattlefmt::skip]
-const TABLE_4: [(u32, usize, usize, usize, [u32; 8], u32, u32, usize); 23] = [
+const TABLE_4: [(u32, usize, usize, usize, [u32; 8], u32, u32, usize); ROWS] = [
     (4, 952, 4, 238, [113, 31, 59, 163, 29, 181, 101, 11], 0x8, 0x8, 1281),
     (5, 288, 2, 144, [47, 17, 233, 127, 239, 139, 199, 163], 0x8, 0x8b, 394),
     (6, 672, 2, 336, [37, 101, 191, 149, 79, 131, 229, 31], 0x8, 0x8b, 906),
@@ -33,15 +36,33 @@ const TABLE_4: [(u32, usize, usize, usize, [u32; 8], u32, u32, usize); 23] = [
     (33, 4280, 8, 535, [59, 37, 157, 167, 239, 83, 163, 29], 0x4, 0x4a, 12855),
 ];
 
-// The row of a link that is offered, and its N.
-pub fn find(number: u32) -> Option<(Row, usize)>
-    ensures offered { IsSome result ↔ (offered number ≡ true) }
-    ensures found { IfSome result (λ (row, size). (row ≡ row_of number) × (size ≡ image_length (row_of number))) }
+// The place of a link's row, or the number of rows where the link is not offered.
+pub fn place_of(link: u32) -> usize
+    ensures { result ≡ place link }
+{
+    TABLE_4
+        .iter()
+        .position(|entry| entry.0 == link)
+        .unwrap_or(ROWS)
+}
+
+// Whether a row stands at a place of the table.
+#[tactic(auto, unfolding(crate::specs::Rows::rows))]
+pub fn has_row(place: usize) -> bool
+    ensures { result ≡ ltb place (length rows) }
+{
+    place < ROWS
+}
+
+// The row at a place of the table.
+#[tactic(auto, unfolding(crate::specs::Rows::rows))]
+pub fn row_at(place: usize) -> Row
+    requires { place < length rows }
+    ensures { result ≡ get_or rows place no_row }
 {
     // by its place: an entry by reference would be a table of addresses in the archive (host/archive.symbols)
-    let place = TABLE_4.iter().position(|entry| entry.0 == number)?;
-    let (link, k, k1, k2, primes, pattern, tail, size) = TABLE_4[place];
-    let row = Row {
+    let (link, k, k1, k2, primes, pattern, tail, _) = TABLE_4[place];
+    Row {
         link,
         k,
         k1,
@@ -49,6 +70,27 @@ pub fn find(number: u32) -> Option<(Row, usize)>
         primes,
         pattern,
         tail,
-    };
-    Some((row, size))
+    }
+}
+
+// N of the row at a place of the table.
+#[tactic(auto, unfolding(crate::specs::Rows::rows))]
+pub fn image_length_at(place: usize) -> usize
+    requires { place < length rows }
+    ensures { result ≡ image_length (get_or rows place no_row) }
+{
+    TABLE_4[place].7
+}
+
+// The row of a link that is offered, and its N.
+#[tactic(auto, unfolding(crate::specs::Rows::offered, crate::specs::Rows::row_of))]
+pub fn find(number: u32) -> Option<(Row, usize)>
+    ensures offered { IsSome result ↔ (offered number ≡ true) }
+    ensures found { IfSome result (λ (row, size). (row ≡ row_of number) × (size ≡ image_length (row_of number))) }
+{
+    let place = place_of(number);
+    if !has_row(place) {
+        return None;
+    }
+    Some((row_at(place), image_length_at(place)))
 }

@@ -15,7 +15,7 @@ use Rattle.accepting.proofs.accept.Goals as goal
 
 pub overflow_cast-result-2 : goal.overflow_cast-result-2
 unfolding differences
-overflow_cast-result-2 c =
+overflow_cast-result-2 g c =
     let row = c.args.came.link.row in
     let good = c.args.came.link.good in
     let image = image_of row c.args.u.now in
@@ -24,8 +24,8 @@ overflow_cast-result-2 c =
     let both : differences image bits ≤ length image + length bits = omega (arith, differences_triangle image [] bits, differences_comm image []) in
     record { fits = omega (arith, length-map c.args.came.bits.now is_one, length-image row good c.args.u.now c.requires.0, (sizes row good).image) }
 
-pub returns : goal.returns
+pub returns-clause-answers : goal.returns-clause-answers
 unfolding within
-returns c =
+returns-clause-answers g c number =
     let bytes = bytes-known c.args.out.now (λ i. let byte : Fits w8 (get_or c.args.out.now i 0) = search rules in byte.fits) in
     grind (arith, sizes, datagram_packed, length-datagram, map-id)

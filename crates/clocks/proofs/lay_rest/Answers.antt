@@ -7,7 +7,7 @@ use Rattle.std.proofs.lemmas.List.{length_push}
 use Rattle.std.proofs.lemmas.Slice.Zip.{either_empty_from_Zip}
 use Rattle.lists.proofs.Over.{more_piece, fits_piece, fits_rest, last}
 use Rattle.links.specs.Working.Clocks.{clocks_of}
-use Rattle.links.proofs.Clocks.{length-clocks}
+use Rattle.links.proofs.Period.{length-clocks}
 use Rattle.clocks.proofs.Left.{coded_more, coded-done}
 use Rattle.clocks.proofs.lay_rest.Goals as goal
 

@@ -2,7 +2,7 @@ use Rattle.std.proofs.Common.{◌∙◌, sym, arith, rules}
 use lib.Seq.{length-take-le}
 use Rattle.lists.proofs.Over.{fits_piece, more_piece}
 use Rattle.links.specs.Working.Clocks.{clocks_of}
-use Rattle.links.proofs.Clocks.{length-clocks}
+use Rattle.links.proofs.Period.{length-clocks}
 use Rattle.groups.proofs.AtGroup.{front, front-within, group_more}
 use Rattle.groups.proofs.encode.Goals as goal
 

@@ -1,5 +1,5 @@
 use Rattle.std.proofs.Common.{◌≡◌, ◌∙◌, refl, sym, ap, arith, rules, ℕ, ◌+◌, ◌%◌, length}
-use Rattle.links.proofs.Clocks.{length-clocks}
+use Rattle.links.proofs.Period.{length-clocks}
 use Rattle.links.specs.Patterns.{pattern_of}
 use Rattle.received.proofs.Taking.{taking_start, taking_more, taking_done}
 use Rattle.received.proofs.take_x.Goals as goal

@@ -1,7 +1,7 @@
 use Rattle.std.proofs.Common.{arith, rules}
 use Rattle.lists.proofs.Over.{start, fits_piece, more_piece, done}
 use Rattle.links.specs.Working.Clocks.{clocks_of}
-use Rattle.links.proofs.Clocks.{length-clocks}
+use Rattle.links.proofs.Period.{length-clocks}
 use Rattle.groups.proofs.Places.{length_places, places_more, places_done}
 use Rattle.groups.proofs.group.lay_places.Goals as goal
 
