@@ -7,7 +7,7 @@ use Prim.Native.Nat.{ℕ, zero, suc, ◌+◌, ◌-◌, ◌*◌, ◌/◌, ◌%◌
 use native.Mathlib.Nat.{zero-add, add-zero, add-mul}
 use native.Mathlib.Omega.{arith}
 use lib.Dec.{T}
-use lib.ListN.{length, get_or, set, take}
+use lib.ListN.{length, get_or, set, take, length-set}
 use borrow.Rule.Slice.PartMut.{put_mid}
 use Rattle.std.proofs.lemmas.List.{take_more_set}
 use Rattle.std.proofs.lemmas.Slice.{take-put_mid}
@@ -70,6 +70,15 @@ module _ (row : Row) (good : T (good_row row)) (u : List Bool) (start : Start) (
           inside = omega (arith, on, cell_inside row good 0 start.i (s / 2 + 1));
           laid = laid_more 1 s b e h (omega (arith, second)) out room w.laid;
         }
+
+  -- a pair is laid: the bits of its two places
+  pub walk_pair : {x s : ℕ} {out : List Bool} → Walking row u start x s out → s % 2 ≡ 0 → s + 1 < 2 * row.k2 → s + 1 < length out
+      → (b x' : ℕ) → b ≡ (x + distance row 21) % row.k → x' ≡ (x + start.step) % row.k
+      → Walking row u start x' (s + 2) (set (set out s (get_or u (x + 1) false)) (s + 1) (get_or u b false))
+  walk_pair {x} {s} {out} w e h room b x' f g =
+      let on : s + 1 + 1 ≡ s + 2 = omega arith in
+      let first = walk_first w (omega (arith, h)) (omega (arith, room)) e in
+      rw on at (walk_second first h (simp length-set (room)) (omega (arith, e)) b x' f g)
 
   -- the whole row is laid: its inputs stand in their part of v
   pub rows_more : (next : Start) → next ≡ start_of row (start.i + 1) → start.i < row.k1 / 2 → (v inputs : List Bool) → length v ≡ row.k

@@ -68,7 +68,7 @@ fn next(link: Link, start: Start) -> Start
     }
 }
 
-// Lays the inputs of a row, two to a pair: m is s mod 2. Places count from 0, so x is π - 2 at the first of a pair. Pairs are not cut by
+// Lays the inputs of a row, two to a pair, at s and s + 1. Places count from 0, so x is π - 2 at the first of a pair. Pairs are not cut by
 // chunks_exact_mut, since the library says nothing of a slice after it.
 #[tactic(auto, using(crate::proofs::Stepping::good_rows), unfolding(crate::specs::Working::Starts::start_of))]
 fn lay_row(block: BlockBits, start: Start, row: &mut [bool])
@@ -78,13 +78,10 @@ fn lay_row(block: BlockBits, start: Start, row: &mut [bool])
     let u = block.bits;
     let apart = distance(block.link, 21);
     let mut x = 2 * start.t;
-    for (s, bit) in row.iter_mut().enumerate() {
-        if s % 2 == 0 {
-            *bit = u[x + 1];
-        } else {
-            *bit = u[stepped(x, apart, u.len())];
-            x = stepped(x, start.step, u.len());
-        }
+    for s in (0..row.len()).step_by(2) {
+        row[s] = u[x + 1];
+        row[s + 1] = u[stepped(x, apart, u.len())];
+        x = stepped(x, start.step, u.len());
     }
 }
 

@@ -3,18 +3,19 @@
 
 mod steps;
 
-ghost use Rattle.std.specs.Prelude.{◌≡◌};
+ghost use Rattle.std.specs.Prelude.{◌≡◌, ◌≤◌};
 ghost use Rattle.answers.specs.Working.Refusals.{number_of};
 ghost use Rattle.messages.specs.Step.{lie};
 
 use answers::Refusal;
 pub use steps::step_message;
 
-// A message: where it starts, and its length.
+// A message: where it starts, and its length, which counts its type, itself and the source. So none is taken for the end, where C gets zeros.
 #[derive(Clone, Copy)]
 pub struct Message {
     pub start: usize,
     pub length: usize,
+    ghost whole: { 7 ≤ length },
 }
 
 // Why no message can be read: a message that lies is told of with its place, and one that runs past the end with the bytes that are missing.

@@ -6,18 +6,9 @@ ghost use Rattle.slots.specs.Burst.{is_slot_link, head_of};
 ghost use Rattle.slots.specs.Head.{read_head};
 ghost use Rattle.slots.specs.Working.Answer.{head_answer};
 
-use crate::training;
+use crate::{FoundHead, training};
 use answers::Refusal;
 use links::Link;
-use words::Found;
-
-// A head that was read: its link word, in how many bits its training differs, and how long the rest is to be, for whoever reads the head first.
-#[derive(Clone, Copy)]
-pub struct FoundHead {
-    pub word: Found,
-    pub training_wrong: u32,
-    pub rest: u32,
-}
 
 // What the definition `read_head` says of a head, refusals included: its link, the wrong bits of its link word and of its training, and how long
 // the rest is to be.

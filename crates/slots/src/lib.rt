@@ -1,13 +1,14 @@
 // Slot bursts (M.2092-1, Annex 3, Table 23; document 01, "Slot bursts"): training, link word and block.
 #![tactic(auto)]
 
+mod found_head;
 mod head;
 mod reader;
 mod training;
 mod writer;
 
 use answers::Refusal;
-pub use head::FoundHead;
+pub use found_head::FoundHead;
 pub use reader::read;
 pub use writer::write;
 

@@ -5,7 +5,7 @@ use Rattle.answers.specs.declared.Refusal.{Refusal}
 use Rattle.answers.specs.Working.Refusals.{number_of}
 use Rattle.slots.specs.declared.Found.{Found}
 use Rattle.slots.specs.declared.Slot.{Slot}
-use Rattle.slots.specs.declared.head.FoundHead.{FoundHead}
+use Rattle.slots.specs.declared.found_head.FoundHead.{FoundHead}
 use Rattle.slots.specs.declared.head.Head.{Head}
 use Rattle.slots.specs.Calls.{refused}
 use Rattle.slots.specs.Head.{refused_head}
