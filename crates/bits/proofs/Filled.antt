@@ -4,10 +4,10 @@ use mathlib.Core.Path.{◌≡◌, refl, sym, ap, ap₂, ◌∙◌}
 use mathlib.Core.Bool.{Bool, false}
 use mathlib.Core.List.{List, [], ◌∷◌, ◌++◌, append_assoc}
 use Prim.Native.Nat.{ℕ, zero, suc, ◌+◌, ◌-◌, ◌≤◌}
-use native.Mathlib.Nat.{sub-zero, zero-sub, suc-sub-suc, le_of_eq}
+use native.Mathlib.Nat.{zero-add, suc-add, sub-zero, zero-sub, suc-sub-suc, le_of_eq}
 use native.Mathlib.Numerals.{add-one}
 use native.Mathlib.Omega.{arith}
-use lib.ListN.{length, get_or, take, drop, replicate, drop_of_length-le, length-append, length-replicate, replicate-append-replicate}
+use lib.ListN.{length, get_or, take, drop, replicate, take-append-drop, drop_of_length-le, length-append, length-replicate, replicate-append-replicate}
 use lib.Seq.{length-take-le, take_all, take-append-le, take-append-add, take-take}
 use Rattle.std.proofs.lemmas.Grind.{replicate_next}
 use Rattle.lists.proofs.Parts.{take-replicate, drop-replicate}
@@ -37,7 +37,7 @@ take-filled m n row h =
     ∙ take-append-le m (row ++ replicate m false) (replicate (n - m) false) (simp (length-append, length-replicate) (omega arith))
 
 -- bit by bit
-filled-nil : (n : ℕ) → filled n [] ≡ replicate n false
+pub filled-nil : (n : ℕ) → filled n [] ≡ replicate n false
 unfolding filled
 filled-nil n = take_all n (replicate n false) (le_of_eq (length-replicate n false))
 
@@ -55,12 +55,23 @@ filled_more n row = rw add-one (more n row)
     more zero (b ∷ row) = filled-cons 0 b row
     more (suc n) (b ∷ row) = filled-cons (suc n) b row ∙ ap₂ ◌∷◌ refl (more n row) ∙ ap (λ l. l ++ get_or row n false ∷ []) (sym (filled-cons n b row))
 
+-- some bits and a row behind them
+pub filled-append : (n : ℕ) (front row : List Bool) → filled (length front + n) (front ++ row) ≡ front ++ filled n row
+filled-append n [] row = rw zero-add
+filled-append n (b ∷ front) row = rw suc-add (filled-cons (length front + n) b (front ++ row) ∙ ap {B = List Bool} (λ l. b ∷ l) (filled-append n front row))
+
 -- what is left from a place on is the rest of the row, filled
-filled-rest : (i n : ℕ) (row : List Bool) → drop i (filled n row) ≡ filled (n - i) (drop i row)
+pub filled-rest : (i n : ℕ) (row : List Bool) → drop i (filled n row) ≡ filled (n - i) (drop i row)
 filled-rest zero n row = rw sub-zero
 filled-rest (suc i) zero row = rw zero-sub (unfold filled in refl)
 filled-rest (suc i) (suc n) [] = ap (drop (suc i)) (filled-nil (suc n)) ∙ drop-replicate (suc i) (suc n) false ∙ sym (filled-nil (suc n - suc i))
 filled-rest (suc i) (suc n) (b ∷ row) = ap (drop (suc i)) (filled-cons n b row) ∙ rw suc-sub-suc (filled-rest i n row)
+
+-- some bits, and those behind them
+pub filled_parts : (m n : ℕ) (row : List Bool) → filled (m + n) row ≡ filled m row ++ filled n (drop m row)
+filled_parts m n row =
+    let rest : m + n - m ≡ n = omega arith in
+    sym (take-append-drop m (filled (m + n) row)) ∙ ap₂ ◌++◌ (take-filled m (m + n) row (omega arith)) (filled-rest m (m + n) row ∙ ap (λ k. filled k (drop m row)) rest)
 
 -- the bits from the row's end on are zero
 pub drop-filled : (i n : ℕ) (row : List Bool) → length row ≤ i → drop i (filled n row) ≡ replicate (n - i) false

@@ -7,10 +7,10 @@ use Prim.Native.Nat.{ℕ, zero, suc, ◌+◌, ◌-◌, ◌*◌, ◌/◌, ◌%◌
 use native.Mathlib.Nat.{pow-suc, pow-succ', one-le-pow, add-mul, mul_assoc, pow-le-pow_right, zero-lt-suc, mod-lt, mod-eq_of_lt, add-zero, zero-add, add-suc, suc-add, sub-zero, suc-sub-suc}
 use native.Mathlib.Numerals.{add-one}
 use native.Mathlib.Omega.{arith}
-use lib.Arith.{digits_lt, digits_div, mod-mul}
-use lib.ListN.{length, get_or, set, take, length-map, length-take}
+use lib.Arith.{digits_lt, digits_div, digits_mod, mod-mul}
+use lib.ListN.{length, get_or, set, take, drop, length-map, length-take}
 use lib.Pow.{shr-shr}
-use lib.Seq.{take_at}
+use lib.Seq.{take_at, drop_at}
 use Rattle.std.proofs.lemmas.List.{take_more, take_more_set}
 use Rattle.bits.specs.Bits.{is_one, byte}
 use Rattle.bits.specs.Row.{high_first, number_on, number}
@@ -37,6 +37,9 @@ high_first-append (suc m) n w =
 
 pub take-high_first : (m n w : ℕ) → take m (high_first (m + n) w) ≡ high_first m (w / 2 ^ n)
 take-high_first m n w = rw (high_first-append m n w) (take_at (high_first m (w / 2 ^ n)) (high_first n w) m (length-high_first m (w / 2 ^ n)))
+
+pub drop-high_first : (m n w : ℕ) → drop m (high_first (m + n) w) ≡ high_first n w
+drop-high_first m n w = rw (high_first-append m n w) (drop_at (high_first m (w / 2 ^ n)) (high_first n w) m (length-high_first m (w / 2 ^ n)))
 
 -- ---- a row laid cell by cell with the digits of a number, where each cell holds a bit
 high_first_more : (i b w : ℕ) → high_first (i + 1) (w / 2 ^ b) ≡ high_first i (w / 2 ^ (b + 1)) ++ is_one (w / 2 ^ b % 2) ∷ []
@@ -123,3 +126,16 @@ on-bits w (b ∷ row) =
 
 pub high_first-number : (row : List Bool) → high_first (length row) (number row) ≡ row
 high_first-number row = on-bits 0 row
+
+-- ---- the digits of two numbers, one behind the other
+-- digits above those that are taken do not count
+pub high_first_low : (n w : ℕ) → high_first n (w % 2 ^ n) ≡ high_first n w
+high_first_low n w =
+    let digits : number (high_first n w) ≡ w % 2 ^ n = omega (arith, back n 0 w) in
+    ap (high_first n) (sym digits) ∙ rw (length-high_first n w) at (high_first-number (high_first n w))
+
+pub high_first_two : (m n a b : ℕ) → b < 2 ^ n → high_first (m + n) (a * 2 ^ n + b) ≡ high_first m a ++ high_first n b
+high_first_two m n a b h =
+    let w = a * 2 ^ n + b in
+    high_first-append m n w
+    ∙ ap₂ ◌++◌ (ap (high_first m) (digits_div a h)) (sym (high_first_low n w) ∙ ap (high_first n) (digits_mod a h))
