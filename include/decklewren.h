@@ -46,9 +46,9 @@ extern "C" {
    was there has changed or is gone), MINOR where something is new or a call answers otherwise, PATCH with every other change. */
 #define DECKLEWREN_VERSION_MAJOR 2
 #define DECKLEWREN_VERSION_MINOR 0
-#define DECKLEWREN_VERSION_PATCH 2
+#define DECKLEWREN_VERSION_PATCH 3
 
-/* The same as text: "2.0.2" is a literal, made of the three numbers. */
+/* The same as text: "2.0.3" is a literal, made of the three numbers. */
 #define DECKLEWREN_TEXT_OF(major, minor, patch) #major "." #minor "." #patch
 #define DECKLEWREN_TEXT(major, minor, patch) DECKLEWREN_TEXT_OF(major, minor, patch)
 #define DECKLEWREN_VERSION DECKLEWREN_TEXT(DECKLEWREN_VERSION_MAJOR, DECKLEWREN_VERSION_MINOR, DECKLEWREN_VERSION_PATCH)
