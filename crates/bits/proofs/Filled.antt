@@ -45,16 +45,6 @@ filled-cons : (n : ℕ) (b : Bool) (row : List Bool) → filled (suc n) (b ∷ r
 unfolding filled
 filled-cons n b row = ap {B = List Bool} (λ l. b ∷ l) (sym (take-take n (suc n) (row ++ replicate (suc n) false) (omega arith)) ∙ take-filled n (suc n) row (omega arith))
 
--- one bit more
-pub filled_more : (n : ℕ) (row : List Bool) → filled (n + 1) row ≡ filled n row ++ get_or row n false ∷ []
-unfolding filled
-filled_more n row = rw add-one (more n row)
-  where
-    more : (n : ℕ) (row : List Bool) → filled (suc n) row ≡ filled n row ++ get_or row n false ∷ []
-    more n [] = rw (filled-nil (suc n), filled-nil n) (rw add-one at (replicate_next n false))
-    more zero (b ∷ row) = filled-cons 0 b row
-    more (suc n) (b ∷ row) = filled-cons (suc n) b row ∙ ap₂ ◌∷◌ refl (more n row) ∙ ap (λ l. l ++ get_or row n false ∷ []) (sym (filled-cons n b row))
-
 -- some bits and a row behind them
 pub filled-append : (n : ℕ) (front row : List Bool) → filled (length front + n) (front ++ row) ≡ front ++ filled n row
 filled-append n [] row = rw zero-add

@@ -6,6 +6,7 @@ use mathlib.Core.Bool.{Bool, true, false}
 use mathlib.Core.List.{List, [], ◌∷◌, ◌++◌, map, map-append}
 use Prim.Native.Nat.{ℕ, suc, ◌+◌, ◌%◌, ◌<◌, ◌≤◌}
 use native.Mathlib.Numerals.{add-one}
+use native.Mathlib.Omega.{arith}
 use lib.ListN.{length, get_or, take, drop, replicate, drop_of_length-le}
 use lib.Seq.{drop-cons}
 use Rattle.bits.specs.Bits.{byte}
@@ -40,10 +41,19 @@ pub ending-done : (second : Bool) (clocks : List (List ℕ)) (i : ℕ) (r : Regi
 unfolding ending_of
 ending-done second clocks i r h = rw (drop_of_length-le clocks h)
 
--- of both: the first encoder's, then the second's
-pub ending-both : (tail : List (List ℕ)) (a b : Register) {first second : List (List ℕ)} → first ≡ take 3 tail → second ≡ drop 3 tail
-    → map byte (ending tail a b) ≡ map byte (ending_of false first a) ++ map byte (ending_of true second b)
-ending-both tail a b e f = rw (e, f) (map-append byte (ending_of false (take 3 tail) a) (ending_of true (drop 3 tail) b))
+-- of both: the first encoder's from the first three clocks, then the second's from the three behind
+module _ (tail : List (List ℕ)) (six : length tail ≡ 6) where
+  first-three : take 3 tail ≡ get_or tail 0 [] ∷ get_or tail 1 [] ∷ get_or tail 2 [] ∷ []
+  first-three =
+      let behind : drop 1 tail ≡ get_or tail 1 [] ∷ get_or tail 2 [] ∷ drop 3 tail = rw (drop-cons tail 1 [] (omega (arith, six)), drop-cons tail 2 [] (omega (arith, six))) refl in
+      ap (take 3) (drop-cons tail 0 [] (omega (arith, six)) ∙ ap (λ (rest : List (List ℕ)). get_or tail 0 [] ∷ rest) behind)
+
+  last-three : drop 3 tail ≡ get_or tail 3 [] ∷ get_or tail 4 [] ∷ get_or tail 5 [] ∷ []
+  last-three = rw (drop-cons tail 3 [] (omega (arith, six)), drop-cons tail 4 [] (omega (arith, six)), drop-cons tail 5 [] (omega (arith, six)), drop_of_length-le tail {i = 6} (omega (arith, six))) refl
+
+  pub ending-both : (a b : Register) → map byte (ending tail a b)
+      ≡ map byte (ending_of false (get_or tail 0 [] ∷ get_or tail 1 [] ∷ get_or tail 2 [] ∷ []) a) ++ map byte (ending_of true (get_or tail 3 [] ∷ get_or tail 4 [] ∷ get_or tail 5 [] ∷ []) b)
+  ending-both a b = rw (← first-three, ← last-three) (map-append byte (ending_of false (take 3 tail) a) (ending_of true (drop 3 tail) b))
 
 -- ---- of a block at clock s, whose place in the pattern is c: u are its bits that are left, v the same interleaved
 module _ (pattern tail : List (List ℕ)) (s : ℕ) (a b : Register) where

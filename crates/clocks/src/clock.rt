@@ -64,20 +64,29 @@ impl Registers {
 }
 
 // Lays one byte as often as its flag says; answers the place behind. The place goes beside its buffer, here and where it comes from, as in
-// `Lays`: a part of the buffer, cut anew for each byte, is no plainer.
+// `Lays`: a part of the buffer, cut anew for each byte, is no plainer. One and two are stores of their own: a `fill` is a call of memset.
 fn pass(flag: u8, byte: u8, at: usize, out: &mut [u8]) -> usize
     requires { Room at (replicate flag byte) out.old }
     ensures { Lays at (replicate flag byte) out.old out.new result }
 {
     let end = at + usize::from(flag);
-    out[at..end].fill(byte);
+    match flag {
+        0 => {}
+        1 => out[at] = byte,
+        2 => {
+            out[at] = byte;
+            out[at + 1] = byte;
+        }
+        // no pattern or tail has such a flag
+        _ => out[at..end].fill(byte),
+    }
     end
 }
 
 // Lays what the flags of a clock pass on of its six; answers the place behind.
-pub fn lay(flags: &[u8; 6], six: [u8; 6], at: usize, out: &mut [u8]) -> usize
-    requires { Room at (passed flags.now six) out.old }
-    ensures { Lays at (passed flags.now six) out.old out.new result }
+pub fn lay(flags: [u8; 6], six: [u8; 6], at: usize, out: &mut [u8]) -> usize
+    requires { Room at (passed flags six) out.old }
+    ensures { Lays at (passed flags six) out.old out.new result }
 {
     let mut to = at;
     for (&flag, &byte) in flags.iter().zip(&six) {

@@ -40,13 +40,19 @@ fn wound(register: Register) -> Register
 
 // Lays the ending of one encoder, one clock to each six flags. Which of the two it is comes as a Bool, as in the definition `ending_of`: a closure
 // for the six would say no more.
-fn end_one(clocks: &[[u8; 6]], second: bool, register: Register, at: usize, out: &mut [u8]) -> usize
-    requires { Room at (map byte (ending_of second clocks.now register)) out.old }
-    ensures { Lays at (map byte (ending_of second clocks.now register)) out.old out.new result }
+fn end_one(
+    clocks: [[u8; 6]; 3],
+    second: bool,
+    register: Register,
+    at: usize,
+    out: &mut [u8],
+) -> usize
+    requires { Room at (map byte (ending_of second clocks register)) out.old }
+    ensures { Lays at (map byte (ending_of second clocks register)) out.old out.new result }
 {
     let mut to = at;
     let mut r = register;
-    for flags in clocks {
+    for &flags in &clocks {
         to = lay(flags, alone(second, r), to, out);
         r = wound(r);
     }
@@ -58,7 +64,7 @@ pub fn end(flags: Flags, registers: Registers, at: usize, out: &mut [u8]) -> usi
     requires { Room at (map byte (ending flags.tail registers.a registers.b)) out.old }
     ensures { Lays at (map byte (ending flags.tail registers.a registers.b)) out.old out.new result }
 {
-    let (first, second) = flags.tail.split_at(3);
-    let to = end_one(first, false, registers.a, at, out);
-    end_one(second, true, registers.b, to, out)
+    let [first, second, third, fourth, fifth, sixth] = flags.tail;
+    let to = end_one([first, second, third], false, registers.a, at, out);
+    end_one([fourth, fifth, sixth], true, registers.b, to, out)
 }

@@ -34,7 +34,7 @@ pub fn lay_rest(
     let mut registers = registers;
     let mut clock = 0;
     for (&u, &v) in rest.u.iter().zip(rest.v) {
-        to = lay(&clocks[clock], registers.six(u, v), to, out);
+        to = lay(clocks[clock], registers.six(u, v), to, out);
         registers = registers.next(u, v);
         clock = flags.next_clock(clock);
     }

@@ -43,7 +43,7 @@ pub fn lay_places(flags: Flags, places: &mut [u8; 288]) -> usize
     let clocks = flags.clocks();
     let mut to = 0;
     for c in 0..24 {
-        to = lay(&clocks[c % flags.period], places_of(c), to, places);
+        to = lay(clocks[c % flags.period], places_of(c), to, places);
     }
     to
 }

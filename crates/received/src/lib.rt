@@ -1,33 +1,33 @@
 // The k bits of what came: unscrambled, and then the X of every clock.
 #![tactic(auto)]
 
-ghost use Rattle.std.specs.Prelude.{◌≡◌, map, ℕ, ◌<◌, ◌≤◌, length, slice_index, slice_index_or, []};
+ghost use Rattle.std.specs.Prelude.{◌≡◌, map, ℕ, ◌<◌, length, slice_index, slice_index_or, []};
 ghost use Rattle.bits.specs.Bits.{is_one};
 ghost use Rattle.distance.specs.Working.Coding.{x_bits};
 ghost use Rattle.links.specs.Patterns.{total};
 ghost use Rattle.links.specs.Sizes.{image_length};
+ghost use Rattle.links.specs.Working.Clocks.{clocks_of};
 ghost use Rattle.turbo.specs.Working.Parity.{counts_of};
 ghost use Rattle.blocks.specs.Reading.{received};
 
 use blocks::Came;
-use links::Link;
+use links::{Flags, Link};
 use scrambler::Scrambler;
 
 // How many bits the flags of a clock pass on.
-fn total(flags: &[u8; 6]) -> usize
-    ensures { result ≡ total flags.now }
+fn total(flags: [u8; 6]) -> usize
+    ensures { result ≡ total flags }
 {
     flags.iter().map(|&flag| usize::from(flag)).sum()
 }
 
 // The same for each clock of a pattern.
-fn totals(pattern: &[[u8; 6]]) -> [usize; 10]
-    requires { length pattern.now ≤ 10 }
-    ensures { (c : ℕ) → c < length pattern.now → slice_index result c ≡ total (slice_index_or pattern.now c []) }
+fn totals(flags: Flags) -> [usize; 10]
+    ensures { (c : ℕ) → c < length (clocks_of flags) → slice_index result c ≡ total (slice_index_or (clocks_of flags) c []) }
 {
     let mut totals = [0; 10];
-    for (c, flags) in pattern.iter().enumerate() {
-        totals[c] = total(flags);
+    for (c, &six) in flags.clocks().iter().enumerate() {
+        totals[c] = total(six);
     }
     totals
 }
@@ -38,7 +38,7 @@ fn take_x(link: Link, coded: &[u8], u: &mut [bool])
     ensures { u.new ≡ x_bits (counts_of link.row) (map is_one coded.now) }
 {
     let flags = link.flags();
-    let totals = totals(flags.clocks());
+    let totals = totals(flags);
     let mut at = 0;
     let mut clock = 0;
     for bit in u {

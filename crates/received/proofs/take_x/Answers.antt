@@ -13,10 +13,9 @@ loop-bit-preserved c =
     let at = c.loop-bit in
     let pattern = c.flags-flags.ensures.0 in
     let flags = c.flags-flags.result in
-    let clocks = c.clocks.ensures ∙ pattern in
     let period : flags.period ≡ length (pattern_of link.row.pattern) = sym (length-clocks flags (search rules)) ∙ ap length pattern in
     taking_more link.row link.good c.args.coded.now c.requires.1 at.invariant (omega arith) (omega arith) _ _
-    (c.totals-totals.ensures at.clock (rw clocks at.invariant.phase) ∙ rw clocks refl)
+    (c.totals-totals.ensures at.clock (rw pattern at.invariant.phase) ∙ rw pattern refl)
     (c.next_clock-clock.ensures ∙ ap (λ (n : ℕ). (at.clock + 1) % n) period)
 
 pub returns : goal.returns

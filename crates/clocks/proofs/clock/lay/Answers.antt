@@ -9,7 +9,7 @@ use Rattle.clocks.proofs.clock.lay.Goals as goal
 
 pub loop-flag-init : goal.loop-flag-init
 loop-flag-init c =
-    let first : iter_rest (zip_first c.into_iter-flag-iterator.result) ≡ c.args.flags.now = search rules in
+    let first : iter_rest (zip_first c.into_iter-flag-iterator.result) ≡ c.args.flags = search rules in
     let second : iter_rest (zip_second c.into_iter-flag-iterator.result) ≡ c.args.six = search rules in
     rw (first, second) (start _ _ _ c.requires)
 

@@ -7,4 +7,4 @@ use Rattle.clocks.proofs.clock.lay.Given as goal
 
 abbrev pub invariant-loop-flag : goal.invariant-loop-flag
 invariant-loop-flag l =
-    Laying l.initial.out l.at (passed l.flags l.fn.six) l.out l.to (passed (iter_rest (zip_first l.flag-iterator)) (iter_rest (zip_second l.flag-iterator)))
+    Laying l.initial.out l.at (passed l.fn.flags l.fn.six) l.out l.to (passed (iter_rest (zip_first l.flag-iterator)) (iter_rest (zip_second l.flag-iterator)))

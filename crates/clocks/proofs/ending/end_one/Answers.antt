@@ -8,16 +8,16 @@ pub lay-to-requires : goal.lay-to-requires
 lay-to-requires c =
     let a = c.args in
     let l = c.loop-flags in
-    rw c.alone.ensures (fits_piece _ _ l.invariant (ending_more a.second a.clocks.now l.flags-index l.r (omega arith) refl))
+    rw c.alone.ensures (fits_piece _ _ l.invariant (ending_more a.second a.clocks l.flags-index l.r (omega arith) refl))
 
 pub loop-flags-preserved : goal.loop-flags-preserved
 loop-flags-preserved c =
     let a = c.args in
     let l = c.loop-flags in
-    more_piece _ _ l.invariant (ending_more a.second a.clocks.now l.flags-index l.r (omega arith) c.wound-r.ensures) (rw c.alone.ensures at c.lay-to.ensures)
+    more_piece _ _ l.invariant (ending_more a.second a.clocks l.flags-index l.r (omega arith) c.wound-r.ensures) (rw c.alone.ensures at c.lay-to.ensures)
 
 pub returns : goal.returns
 returns c =
     let a = c.args in
     let l = c.loop-flags in
-    done l.invariant (ending-done a.second a.clocks.now l.flags-index l.r (omega arith))
+    done l.invariant (ending-done a.second a.clocks l.flags-index l.r (omega arith))

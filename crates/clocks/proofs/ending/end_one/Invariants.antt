@@ -8,4 +8,4 @@ use Rattle.clocks.proofs.ending.end_one.Given as goal
 
 abbrev pub invariant-loop-flags : goal.invariant-loop-flags
 invariant-loop-flags l =
-    Laying l.initial.out l.at (map byte (ending_of l.second l.clocks l.fn.register)) l.out l.to (map byte (ending_of l.second (drop l.flags-index l.clocks) l.r))
+    Laying l.initial.out l.at (map byte (ending_of l.second l.fn.clocks l.fn.register)) l.out l.to (map byte (ending_of l.second (drop l.flags-index l.fn.clocks) l.r))
