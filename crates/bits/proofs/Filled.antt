@@ -5,11 +5,9 @@ use mathlib.Core.Bool.{Bool, false}
 use mathlib.Core.List.{List, [], ◌∷◌, ◌++◌, append_assoc}
 use Prim.Native.Nat.{ℕ, zero, suc, ◌+◌, ◌-◌, ◌≤◌}
 use native.Mathlib.Nat.{zero-add, suc-add, sub-zero, zero-sub, suc-sub-suc, le_of_eq}
-use native.Mathlib.Numerals.{add-one}
 use native.Mathlib.Omega.{arith}
-use lib.ListN.{length, get_or, take, drop, replicate, take-append-drop, drop_of_length-le, length-append, length-replicate, replicate-append-replicate}
+use lib.ListN.{length, take, drop, replicate, take-append-drop, drop_of_length-le, length-append, length-replicate, replicate-append-replicate}
 use lib.Seq.{length-take-le, take_all, take-append-le, take-append-add, take-take}
-use Rattle.std.proofs.lemmas.Grind.{replicate_next}
 use Rattle.lists.proofs.Parts.{take-replicate, drop-replicate}
 use Rattle.bits.specs.Datagram.{filled}
 
