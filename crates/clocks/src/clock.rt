@@ -1,5 +1,5 @@
 // What a clock passes on (M.2092-1, Annex 2, 1.2.4.4): the six bits that both encoders put out, each as often as its flag says.
-ghost use Rattle.std.specs.Prelude.{◌≡◌, [], ◌∷◌, map, ◌%◌, replicate};
+ghost use Rattle.std.specs.Prelude.{◌≡◌, [], ◌∷◌, map, ◌%◌, length, replicate};
 ghost use Rattle.lists.specs.Over.{Room};
 ghost use Rattle.lists.specs.Working.Laying.{Lays};
 ghost use Rattle.bits.specs.Bits.{byte};
@@ -63,6 +63,15 @@ impl Registers {
     }
 }
 
+// What a flag above 2 would pass on, which no pattern or tail has. It stays a call, so that its memset stands in the archive once.
+#[cold]
+#[inline(never)]
+fn fill_part(byte: u8, part: &mut [u8])
+    ensures { part.new ≡ replicate (length part.old) byte }
+{
+    part.fill(byte);
+}
+
 // Lays one byte as often as its flag says; answers the place behind. The place goes beside its buffer, here and where it comes from, as in
 // `Lays`: a part of the buffer, cut anew for each byte, is no plainer. One and two are stores of their own: a `fill` is a call of memset.
 fn pass(flag: u8, byte: u8, at: usize, out: &mut [u8]) -> usize
@@ -77,8 +86,7 @@ fn pass(flag: u8, byte: u8, at: usize, out: &mut [u8]) -> usize
             out[at] = byte;
             out[at + 1] = byte;
         }
-        // no pattern or tail has such a flag
-        _ => out[at..end].fill(byte),
+        _ => fill_part(byte, &mut out[at..end]),
     }
     end
 }

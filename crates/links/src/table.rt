@@ -36,7 +36,8 @@ const TABLE_4: [(u32, usize, usize, usize, [u32; 8], u32, u32, usize); ROWS] = [
     (33, 4280, 8, 535, [59, 37, 157, 167, 239, 83, 163, 29], 0x4, 0x4a, 12855),
 ];
 
-// The place of a link's row, or the number of rows where the link is not offered.
+// The place of a link's row, or the number of rows where the link is not offered. It stays a call: inlined, each place would have its row's code.
+#[inline(never)]
 pub fn place_of(link: u32) -> usize
     ensures { result ≡ place link }
 {
@@ -60,16 +61,15 @@ pub fn row_at(place: usize) -> Row
     requires { place < length rows }
     ensures { result ≡ get_or rows place no_row }
 {
-    // by its place: an entry by reference would be a table of addresses in the archive (host/archive.symbols)
-    let (link, k, k1, k2, primes, pattern, tail, _) = TABLE_4[place];
+    // field by field: an entry by reference would be a table of addresses in the archive (host/archive.symbols), and one by value is built on the stack
     Row {
-        link,
-        k,
-        k1,
-        k2,
-        primes,
-        pattern,
-        tail,
+        link: TABLE_4[place].0,
+        k: TABLE_4[place].1,
+        k1: TABLE_4[place].2,
+        k2: TABLE_4[place].3,
+        primes: TABLE_4[place].4,
+        pattern: TABLE_4[place].5,
+        tail: TABLE_4[place].6,
     }
 }
 

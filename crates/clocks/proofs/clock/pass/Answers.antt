@@ -44,5 +44,5 @@ returns-in_default c =
     let many : length copies ≡ a.flag = length-replicate a.flag a.byte in
     let size : a.at + c.from.result - a.at ≡ length copies = omega (arith, many) in
     let room : length (take (length copies) (drop a.at a.out.now)) ≡ a.flag = length-take-le (length copies) (drop a.at a.out.now) (omega (arith, length-drop a.at a.out.now)) ∙ many in
-    let filled : c.fill.new.self ≡ copies = c.fill.ensures.after (λ y e. e) ∙ rw (size, room) in
+    let filled : c.fill_part.new.part ≡ copies = c.fill_part.ensures ∙ rw (size, room) in
     (omega (arith, many), rw (filled, size) (part-over a.at copies a.out.now))
