@@ -1,6 +1,6 @@
 -- What is left to lay at a clock, in bytes: of the clock's six, of the ending, and of a block.
 -- Assumes nothing.
-use mathlib.Core.Path.{◌≡◌, refl, ap, ap₂, ◌∙◌}
+use mathlib.Core.Path.{◌≡◌, refl, sym, ap, ap₂, ◌∙◌}
 use mathlib.Core.Logic.{◌⊎◌, inl, inr}
 use mathlib.Core.Bool.{Bool, true, false}
 use mathlib.Core.List.{List, [], ◌∷◌, ◌++◌, map, map-append}
@@ -41,7 +41,12 @@ pub ending-done : (second : Bool) (clocks : List (List ℕ)) (i : ℕ) (r : Regi
 unfolding ending_of
 ending-done second clocks i r h = rw (drop_of_length-le clocks h)
 
--- of both: the first encoder's from the first three clocks, then the second's from the three behind
+-- of both: the first encoder's from the first three clocks, then the second's from what is behind
+pub ending-both : (tail : List (List ℕ)) (a b : Register) {first second : List (List ℕ)} → first ≡ take 3 tail → second ≡ drop 3 tail
+    → map byte (ending tail a b) ≡ map byte (ending_of false first a) ++ map byte (ending_of true second b)
+ending-both tail a b e f = rw (e, f) (map-append byte (ending_of false (take 3 tail) a) (ending_of true (drop 3 tail) b))
+
+-- the same of six clocks, one by one
 module _ (tail : List (List ℕ)) (six : length tail ≡ 6) where
   first-three : take 3 tail ≡ get_or tail 0 [] ∷ get_or tail 1 [] ∷ get_or tail 2 [] ∷ []
   first-three =
@@ -51,9 +56,9 @@ module _ (tail : List (List ℕ)) (six : length tail ≡ 6) where
   last-three : drop 3 tail ≡ get_or tail 3 [] ∷ get_or tail 4 [] ∷ get_or tail 5 [] ∷ []
   last-three = rw (drop-cons tail 3 [] (omega (arith, six)), drop-cons tail 4 [] (omega (arith, six)), drop-cons tail 5 [] (omega (arith, six)), drop_of_length-le tail {i = 6} (omega (arith, six))) refl
 
-  pub ending-both : (a b : Register) → map byte (ending tail a b)
+  pub ending-six : (a b : Register) → map byte (ending tail a b)
       ≡ map byte (ending_of false (get_or tail 0 [] ∷ get_or tail 1 [] ∷ get_or tail 2 [] ∷ []) a) ++ map byte (ending_of true (get_or tail 3 [] ∷ get_or tail 4 [] ∷ get_or tail 5 [] ∷ []) b)
-  ending-both a b = rw (← first-three, ← last-three) (map-append byte (ending_of false (take 3 tail) a) (ending_of true (drop 3 tail) b))
+  ending-six a b = ending-both tail a b (sym first-three) (sym last-three)
 
 -- ---- of a block at clock s, whose place in the pattern is c: u are its bits that are left, v the same interleaved
 module _ (pattern tail : List (List ℕ)) (s : ℕ) (a b : Register) where

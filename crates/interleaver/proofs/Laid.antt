@@ -53,12 +53,12 @@ module _ (row : Row) (good : T (good_row row)) (u : List Bool) (start : Start) (
       rw (take_more_set out s (get_or u p false) room, laid, from-append row u (start.place + 1) s 1, place) refl
 
   module _ {x s : ℕ} {out : List Bool} (w : Walking row u start x s out) (h : s < 2 * row.k2) (room : s < length out) where
-    walk_first : s % 2 ≡ 0 → Walking row u start x (s + 1) (set out s (get_or u (x + 1) false))
+    pub walk_first : s % 2 ≡ 0 → Walking row u start x (s + 1) (set out s (get_or u (x + 1) false))
     walk_first e =
         let same : (s + 1) / 2 ≡ s / 2 = omega arith in
         record { at = rw same w.at; inside = w.inside; laid = laid_more 0 s (x + 1) e h (omega (arith, w.at)) out room w.laid }
 
-    walk_second : s % 2 ≡ 1 → (b x' : ℕ) → b ≡ (x + distance row 21) % row.k → x' ≡ (x + start.step) % row.k
+    pub walk_second : s % 2 ≡ 1 → (b x' : ℕ) → b ≡ (x + distance row 21) % row.k → x' ≡ (x + start.step) % row.k
         → Walking row u start x' (s + 1) (set out s (get_or u b false))
     unfolding start_of
     walk_second e b x' f g =

@@ -1,17 +1,17 @@
 -- The code's table has an entry for each row of the definition's, and a search in it finds the place of a link's row.
 -- Assumes nothing.
 use mathlib.Core.Path.{◌≡◌, refl}
-use mathlib.Core.Bool.{Bool}
+use mathlib.Core.Bool.{Bool, true, false, cond}
 use mathlib.Core.List.{List, [], ◌∷◌, map}
-use Prim.Native.Nat.{ℕ}
+use Prim.Native.Nat.{ℕ, ◌<◌}
 use native.Mathlib.Omega.{arith}
-use lib.Dec.{eqb}
-use lib.ListN.{length}
-use Rattle.std.proofs.Common.{unwrap_or}
+use lib.Dec.{eqb, ltb}
+use lib.ListN.{length, get_or}
+use Rattle.std.proofs.Common.{Some, None, unwrap_or}
 use Rattle.std.proofs.lemmas.Grind.{common_steps}
 use Rattle.std.specs.List.{position}
 use Rattle.links.specs.declared.Row.{Row}
-use Rattle.links.specs.Rows.{rows, place_in, place}
+use Rattle.links.specs.Rows.{rows, no_row, place_in, place, offered, row_of}
 use Rattle.links.specs.Sizes.{image_length}
 
 -- a row as the code's table has it, with its N
@@ -32,3 +32,21 @@ searched (r ∷ rs) link = grind (arith, common_steps, searched rs link)
 
 pub placed : (link : ℕ) → unwrap_or (position (is_of link) (map entry rows)) (length rows) ≡ place link
 placed link = searched rows link
+
+-- what the search itself answers: the place of a link that is offered, and none of another
+placed_in : (rs : List Row) (link : ℕ) → position (is_of link) (map entry rs) ≡ cond (ltb (place_in rs link) (length rs)) (Some (place_in rs link)) None
+unfolding place_in
+placed_in [] link = refl
+placed_in (r ∷ rs) link = grind (arith, common_steps, placed_in rs link)
+
+module _ (link : ℕ) where
+  found : position (is_of link) (map entry rows) ≡ cond (offered link) (Some (place_in rows link)) None
+  unfolding offered
+  found = placed_in rows link
+
+  pub one_placed : (n : ℕ) → Some n ≡ position (is_of link) (map entry rows) → (offered link ≡ true) × (n < length rows) × (n ≡ place_in rows link) × (get_or rows n no_row ≡ row_of link)
+  unfolding offered row_of
+  one_placed n h = grind (arith, common_steps, found)
+
+  pub none_placed : None ≡ position (is_of link) (map entry rows) → offered link ≡ false
+  none_placed h = grind (arith, common_steps, found)
