@@ -1,14 +1,15 @@
 -- The code's table has an entry for each row of the definition's, and a search in it finds the place of a link's row.
 -- Assumes nothing.
-use mathlib.Core.Path.{◌≡◌, refl}
-use mathlib.Core.Bool.{Bool, true, false, cond}
+use mathlib.Core.Path.{◌≡◌, refl, sym}
+use mathlib.Core.Bool.{Bool, true, false}
 use mathlib.Core.List.{List, [], ◌∷◌, map}
 use Prim.Native.Nat.{ℕ, ◌<◌}
 use native.Mathlib.Omega.{arith}
-use lib.Dec.{eqb, ltb}
+use lib.Dec.{eqb}
 use lib.ListN.{length, get_or}
 use Rattle.std.proofs.Common.{Some, None, unwrap_or}
 use Rattle.std.proofs.lemmas.Grind.{common_steps}
+use Rattle.std.proofs.lemmas.List.Quantifiers.{position-Some}
 use Rattle.std.specs.List.{position}
 use Rattle.links.specs.declared.Row.{Row}
 use Rattle.links.specs.Rows.{rows, no_row, place_in, place, offered, row_of}
@@ -34,19 +35,13 @@ pub placed : (link : ℕ) → unwrap_or (position (is_of link) (map entry rows))
 placed link = searched rows link
 
 -- what the search itself answers: the place of a link that is offered, and none of another
-placed_in : (rs : List Row) (link : ℕ) → position (is_of link) (map entry rs) ≡ cond (ltb (place_in rs link) (length rs)) (Some (place_in rs link)) None
-unfolding place_in
-placed_in [] link = refl
-placed_in (r ∷ rs) link = grind (arith, common_steps, placed_in rs link)
-
 module _ (link : ℕ) where
-  found : position (is_of link) (map entry rows) ≡ cond (offered link) (Some (place_in rows link)) None
-  unfolding offered
-  found = placed_in rows link
-
   pub one_placed : (n : ℕ) → Some n ≡ position (is_of link) (map entry rows) → (offered link ≡ true) × (n < length rows) × (n ≡ place_in rows link) × (get_or rows n no_row ≡ row_of link)
   unfolding offered row_of
-  one_placed n h = grind (arith, common_steps, found)
+  one_placed n h =
+      let inside = position-Some (is_of link) (map entry rows) n (entry no_row) (sym h) in
+      grind (arith, common_steps, placed link, inside.0)
 
   pub none_placed : None ≡ position (is_of link) (map entry rows) → offered link ≡ false
-  none_placed h = grind (arith, common_steps, found)
+  unfolding offered
+  none_placed h = grind (arith, common_steps, placed link)
